@@ -1,0 +1,116 @@
+ghost use mathlib.Core.Path.{_≡_};
+ghost use lib.ListN.{length};
+ghost use Rattle.finders.specs.Meanings.{Meaning, fitness-of};
+ghost use Rattle.finders.specs.Points.{within};
+ghost use Rattle.finders.specs.PointFinders.{PointFit, Lawful, shape-of, width-of, reading-limit-of, step-limit-of, find-answer, find-place, find-checked, test-checked, Contains};
+use super::refusals::Refusal;
+
+// How many cells the points of a finder have, the largest size of a reading, and the largest step.
+#[derive(Clone, Copy)]
+pub struct PointShape {
+    pub width: usize,
+    pub reading_limit: u32,
+    pub step_limit: u32,
+}
+
+// Finds the nearest point of a set, fit or unfit by its meaning.
+pub trait PointFinder {
+    ghost meaning: { Self → Meaning PointFit };
+
+    law lawful: { (x : Self) → Lawful (meaning x) };
+
+    // The width and the limits, or the refusal that made the finder unfit.
+    fn shape(&self) -> Result<PointShape, Refusal>
+        ensures { λ r. ⌜ r ≡ shape-of (meaning (now (self .entry))) ⌝ };
+
+    // Writes the pick into the place and answers its squared distance.
+    fn find(&self, readings: &[i32], step: u32, place: &mut [i32]) -> Result<u64, Refusal>
+        ensures answer { λ r. ⌜ r ≡ find-answer (meaning (now (self .entry))) (now (readings .entry)) step (now (place .entry)) ⌝ }
+        ensures place { λ _. ⌜ now (place .exit) ≡ find-place (meaning (now (self .entry))) (now (readings .entry)) step (now (place .entry)) ⌝ };
+
+    fn fitness(&self) -> Result<(), Refusal>
+        ensures { λ r. ⌜ r ≡ fitness-of (meaning (now (self .entry))) ⌝ }
+    {
+        match self.shape() {
+            Ok(_) => Ok(()),
+            Err(refusal) => Err(refusal),
+        }
+    }
+
+    fn width(&self) -> usize
+        ensures { λ r. ⌜ r ≡ width-of (meaning (now (self .entry))) ⌝ }
+    {
+        match self.shape() {
+            Ok(shape) => shape.width,
+            Err(_) => 0,
+        }
+    }
+
+    fn reading_limit(&self) -> u32
+        ensures { λ r. ⌜ r ≡ reading-limit-of (meaning (now (self .entry))) ⌝ }
+    {
+        match self.shape() {
+            Ok(shape) => shape.reading_limit,
+            Err(_) => 0,
+        }
+    }
+
+    fn step_limit(&self) -> u32
+        ensures { λ r. ⌜ r ≡ step-limit-of (meaning (now (self .entry))) ⌝ }
+    {
+        match self.shape() {
+            Ok(shape) => shape.step_limit,
+            Err(_) => 0,
+        }
+    }
+}
+
+// A finder that knows its set.
+pub trait PointTester: PointFinder {
+    // Whether a point belongs to the set.
+    fn contains(&self, point: &[i32]) -> Result<bool, Refusal>
+        ensures { λ r. ⌜ Contains (Self·PointFinder .meaning (now (self .entry))) (now (point .entry)) r ⌝ };
+}
+
+// Whether no number is larger in size than a limit.
+pub fn all_within(numbers: &[i32], limit: u32) -> bool
+    ensures { λ r. ⌜ r ≡ within limit (now (numbers .entry)) ⌝ }
+{
+    for number in numbers {
+        if number.unsigned_abs() > limit {
+            return false;
+        }
+    }
+    true
+}
+
+impl PointShape {
+    // What a find of these readings at this step, into a place of so many numbers, is refused for.
+    pub fn check_find(self, readings: &[i32], step: u32, place: usize) -> Result<(), Refusal>
+        ensures { λ r. ⌜ r ≡ find-checked (self .width) (self .«reading_limit») (self .«step_limit») (now (readings .entry)) step place ⌝ }
+    {
+        if readings.len() != self.width || place != self.width {
+            return Err(Refusal::Length);
+        }
+        if !all_within(readings, self.reading_limit) {
+            return Err(Refusal::Magnitude);
+        }
+        if step < 1 || step > self.step_limit {
+            return Err(Refusal::Step);
+        }
+        Ok(())
+    }
+
+    // What a test of this point is refused for.
+    pub fn check_test(self, point: &[i32]) -> Result<(), Refusal>
+        ensures { λ r. ⌜ r ≡ test-checked (self .width) (self .«reading_limit») (now (point .entry)) ⌝ }
+    {
+        if point.len() != self.width {
+            return Err(Refusal::Length);
+        }
+        if !all_within(point, self.reading_limit) {
+            return Err(Refusal::Magnitude);
+        }
+        Ok(())
+    }
+}

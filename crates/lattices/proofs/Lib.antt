@@ -1,0 +1,6 @@
+pub mod RoundedCells
+pub mod ZLaws
+pub mod Parity
+pub mod Repair
+pub mod DLaws
+pub mod Worst

@@ -1,0 +1,2 @@
+pub mod LatticeZ
+pub mod LatticeD
