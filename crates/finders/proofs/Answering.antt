@@ -47,9 +47,11 @@ find-granted n l t rs q k h = by-length (eqb (length rs) n && eqb k n) refl h
     by-step : (a : Bool) → (leb 1 q && leb q t) ≡ a → _≡_ {A = Result (Unit {0}) Refusal} (Ok tt) (cond a (Ok tt) (Err Step)) → (1 ≤ q) × (q ≤ t)
     by-step true e h = let p = and-parts (leb 1 q) (leb q t) e in (leb-true 1 q (p .0), leb-true q t (p .1))
     by-step false e h = absurd (not-err h)
+
     by-size : (a : Bool) → within l rs ≡ a → _≡_ {A = Result (Unit {0}) Refusal} (Ok tt) (cond a (cond (leb 1 q && leb q t) (Ok tt) (Err Step)) (Err Magnitude)) → (within l rs ≡ true) × (1 ≤ q) × (q ≤ t)
     by-size true e h = let p = by-step (leb 1 q && leb q t) refl h in (e, p .0, p .1)
     by-size false e h = absurd (not-err h)
+
     by-length : (a : Bool) → (eqb (length rs) n && eqb k n) ≡ a → _≡_ {A = Result (Unit {0}) Refusal} (Ok tt) (cond a (cond (within l rs) (cond (leb 1 q && leb q t) (Ok tt) (Err Step)) (Err Magnitude)) (Err Length)) → Granted n l t rs q k
     by-length true e h =
         let p = and-parts (eqb (length rs) n) (eqb k n) e in let r = by-size (within l rs) refl h in

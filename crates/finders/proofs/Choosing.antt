@@ -22,18 +22,20 @@ module _ {S : Type 0} (good : S → S → Type 0) (total : (a b : S) → good a 
   from-worse a b n = elim (total a b) [ inl h ↦ absurd (n h) | inr h ↦ h ]
 
   offer-taken : {C : Type 0} (offers : List (C × S)) (b x : C × S) → (good (b .1) (x .1) → ⊥) → FirstBest good offers b → FirstBest good (offers ++ x ∷ []) x
-  offer-taken {C} offers b x n f = record
-    { earlier = offers
-    ; later = []
-    ; stands = refl
-    ; earlier-are-worse = subst (All Worse) (sym (f .stands)) (all-append Worse (f .earlier) (b ∷ f .later) before (n, after))
-    ; later-are-no-better = tt
-    }
+  offer-taken {C} offers b x n f = record {
+    earlier = offers;
+    later = [];
+    stands = refl;
+    earlier-are-worse = subst (All Worse) (sym (f .stands)) (all-append Worse (f .earlier) (b ∷ f .later) before (n, after));
+    later-are-no-better = tt;
+  }
     where
       Worse : C × S → Type 0
       Worse y = good (y .1) (x .1) → ⊥
+
       before : All Worse (f .earlier)
       before = all-map (λ y. good (y .1) (b .1) → ⊥) Worse (f .earlier) (λ y w g. n (chain (b .1) (y .1) (x .1) (from-worse (y .1) (b .1) w) g)) (f .earlier-are-worse)
+
       after : All Worse (f .later)
       after = all-map (λ y. good (b .1) (y .1)) Worse (f .later) (λ y w g. n (chain (b .1) (y .1) (x .1) w g)) (f .later-are-no-better)
 
@@ -47,13 +49,13 @@ pub chosen-stays : {C S : Type 0} (good : S → S → Type 0) (offers : List (C 
 chosen-stays {C} {S} good offers held b x e g f = subst (Chosen good (offers ++ x ∷ [])) (sym e) (stays (subst (Chosen good offers) e f))
   where
     stays : FirstBest good offers b → FirstBest good (offers ++ x ∷ []) b
-    stays f = record
-      { earlier = f .earlier
-      ; later = f .later ++ x ∷ []
-      ; stands = ap (λ v. v ++ x ∷ []) (f .stands) ∙ append-assoc (f .earlier) (b ∷ f .later) (x ∷ [])
-      ; earlier-are-worse = f .earlier-are-worse
-      ; later-are-no-better = all-append (λ y. good (b .1) (y .1)) (f .later) (x ∷ []) (f .later-are-no-better) (g, tt)
-      }
+    stays f = record {
+      earlier = f .earlier;
+      later = f .later ++ x ∷ [];
+      stands = ap (λ v. v ++ x ∷ []) (f .stands) ∙ append-assoc (f .earlier) (b ∷ f .later) (x ∷ []);
+      earlier-are-worse = f .earlier-are-worse;
+      later-are-no-better = all-append (λ y. good (b .1) (y .1)) (f .later) (x ∷ []) (f .later-are-no-better) (g, tt);
+    }
 
 -- what is held is b, and as the code reads it (c, s)
 pub held-good : {C S : Type 0} (good : S → S → Type 0) (held : Option (C × S)) (b : C × S) (c : C) (s x : S) → held ≡ Some b → held ≡ Some (c, s) → good (b .1) x → good s x

@@ -88,10 +88,10 @@ Member (fit m) x = m .member x
 abbrev pub find-checked : (width reading-limit step-limit : ℕ) → List ℤ → ℕ → ℕ → Result (Unit {0}) Refusal
 find-checked n l t rs q k =
     cond (eqb (length rs) n && eqb k n)
-      (cond (within l rs)
-        (cond (leb 1 q && leb q t) (Ok tt) (Err Step))
-        (Err Magnitude))
-      (Err Length)
+    (cond (within l rs)
+    (cond (leb 1 q && leb q t) (Ok tt) (Err Step))
+    (Err Magnitude))
+    (Err Length)
 
 abbrev pub find-grant : Meaning PointFit → List ℤ → ℕ → ℕ → Result (Unit {0}) Refusal
 find-grant (unfit e) rs q k = Err e

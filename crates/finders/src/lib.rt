@@ -4,5 +4,6 @@ pub mod points;
 pub mod refusals;
 
 // Shared by the library's own crates; no call for its users.
+pub mod checks;
 pub mod choice;
 pub mod rounding;

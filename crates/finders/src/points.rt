@@ -1,9 +1,15 @@
 ghost use mathlib.Core.Path.{_≡_};
-ghost use lib.ListN.{length};
 ghost use Rattle.finders.specs.Meanings.{Meaning, fitness-of};
-ghost use Rattle.finders.specs.Points.{within};
-ghost use Rattle.finders.specs.PointFinders.{PointFit, Lawful, shape-of, width-of, reading-limit-of, step-limit-of, find-answer, find-place, find-checked, test-checked, Contains};
+ghost use Rattle.finders.specs.PointFinders.{PointFit, Lawful, shape-of, width-of, reading-limit-of, step-limit-of, find-answer, find-place, Contains};
 use super::refusals::Refusal;
+
+// The most cells of a group.
+pub const MOST_CELLS: usize = 32;
+
+// No finder takes a reading that is larger in size, or a larger step.
+pub const MOST_READING: u32 = 1 << 30;
+
+pub const MOST_STEP: u32 = 1 << 20;
 
 // How many cells the points of a finder have, the largest size of a reading, and the largest step.
 #[derive(Clone, Copy)]
@@ -70,47 +76,4 @@ pub trait PointTester: PointFinder {
     // Whether a point belongs to the set.
     fn contains(&self, point: &[i32]) -> Result<bool, Refusal>
         ensures { λ r. ⌜ Contains (Self·PointFinder .meaning (now (self .entry))) (now (point .entry)) r ⌝ };
-}
-
-// Whether no number is larger in size than a limit.
-pub fn all_within(numbers: &[i32], limit: u32) -> bool
-    ensures { λ r. ⌜ r ≡ within limit (now (numbers .entry)) ⌝ }
-{
-    for number in numbers {
-        if number.unsigned_abs() > limit {
-            return false;
-        }
-    }
-    true
-}
-
-impl PointShape {
-    // What a find of these readings at this step, into a place of so many numbers, is refused for.
-    pub fn check_find(self, readings: &[i32], step: u32, place: usize) -> Result<(), Refusal>
-        ensures { λ r. ⌜ r ≡ find-checked (self .width) (self .«reading_limit») (self .«step_limit») (now (readings .entry)) step place ⌝ }
-    {
-        if readings.len() != self.width || place != self.width {
-            return Err(Refusal::Length);
-        }
-        if !all_within(readings, self.reading_limit) {
-            return Err(Refusal::Magnitude);
-        }
-        if step < 1 || step > self.step_limit {
-            return Err(Refusal::Step);
-        }
-        Ok(())
-    }
-
-    // What a test of this point is refused for.
-    pub fn check_test(self, point: &[i32]) -> Result<(), Refusal>
-        ensures { λ r. ⌜ r ≡ test-checked (self .width) (self .«reading_limit») (now (point .entry)) ⌝ }
-    {
-        if point.len() != self.width {
-            return Err(Refusal::Length);
-        }
-        if !all_within(point, self.reading_limit) {
-            return Err(Refusal::Magnitude);
-        }
-        Ok(())
-    }
 }

@@ -31,11 +31,20 @@ pub fn round(reading: i32, step: u32) -> Rounded
     let (number, residue) = divide(reading, step);
     let step = i64::from(step);
     if 2 * residue > step {
-        Rounded { number: (number + 1) as i32, residue: (residue - step) as i32 }
+        Rounded {
+            number: (number + 1) as i32,
+            residue: (residue - step) as i32,
+        }
     } else if 2 * residue < -step {
-        Rounded { number: (number - 1) as i32, residue: (residue + step) as i32 }
+        Rounded {
+            number: (number - 1) as i32,
+            residue: (residue + step) as i32,
+        }
     } else {
-        Rounded { number: number as i32, residue: residue as i32 }
+        Rounded {
+            number: number as i32,
+            residue: residue as i32,
+        }
     }
 }
 

@@ -113,6 +113,7 @@ nearest-exact q x p = sym (nearest-unique (pos q *ℤ x) q x p (record { near = 
   where
     e : pos q *ℤ x -ℤ pos q *ℤ x ≡ pos 0
     e = +ℤ-invr (pos q *ℤ x)
+
     none : 2 * natAbs (pos q *ℤ x -ℤ pos q *ℤ x) ≡ q → ⊥
     none t = omega (arith, ap natAbs e)
 
@@ -123,6 +124,7 @@ is-least r q x y p h k = go (ℤ-discrete x y)
     sized : (s t : ℤ) → (a b : ℤ) → s ≡ r -ℤ a → t ≡ r -ℤ b → 1 ≤ natAbs (t -ℤ s) → natAbs t ≡ natAbs s → Side r s → (pos 0 ≤ℤ r) ⊎ (r <ℤ pos 0) → natAbs a ≤ natAbs b
     sized s t a b e f d l c (inl m) = let u : pos 0 ≤ℤ s = c .0 m in omega (arith, ints)
     sized s t a b e f d l c (inr m) = let u : s ≤ℤ pos 0 = c .1 (omega (arith, ints)) in omega (arith, ints)
+
     go : Dec (x ≡ y) → natAbs x ≤ natAbs y
     go (yes e) = rw e (omega arith)
     go (no n) =

@@ -18,7 +18,7 @@ sq z = z *ℤ z
 expansion : (q : ℤ) (rs xs : List ℤ) → sumℤ (zipWith (λ r x. sq (r -ℤ q *ℤ x)) rs xs) ≡ sumℤ (zipWith (λ r x. r *ℤ r) rs xs) -ℤ pos 2 *ℤ q *ℤ sumℤ (zipWith (λ r x. r *ℤ x) rs xs) +ℤ q *ℤ q *ℤ sumℤ (zipWith (λ r x. x *ℤ x) rs xs)
 expansion q rs xs =
     sumℤ-zip-≡ (λ r x. sq (r -ℤ q *ℤ x)) (λ r x. r *ℤ r -ℤ pos 2 *ℤ q *ℤ (r *ℤ x) +ℤ q *ℤ q *ℤ (x *ℤ x)) rs xs
-      (λ r x. ring3 r q x (λ r q x. (r ⊖ q ⊗ x) ⊗ (r ⊖ q ⊗ x)) (λ r q x. r ⊗ r ⊖ k (pos 2) ⊗ q ⊗ (r ⊗ x) ⊕ q ⊗ q ⊗ (x ⊗ x)) tt)
+    (λ r x. ring3 r q x (λ r q x. (r ⊖ q ⊗ x) ⊗ (r ⊖ q ⊗ x)) (λ r q x. r ⊗ r ⊖ k (pos 2) ⊗ q ⊗ (r ⊗ x) ⊕ q ⊗ q ⊗ (x ⊗ x)) tt)
     ∙ sumℤ-zip-+ (λ r x. r *ℤ r -ℤ pos 2 *ℤ q *ℤ (r *ℤ x)) (λ r x. q *ℤ q *ℤ (x *ℤ x)) rs xs
     ∙ ap (λ (t : ℤ). t +ℤ sumℤ (zipWith (λ r x. q *ℤ q *ℤ (x *ℤ x)) rs xs)) (sumℤ-zip-- (λ r x. r *ℤ r) (λ r x. pos 2 *ℤ q *ℤ (r *ℤ x)) rs xs)
     ∙ ap (λ (t : ℤ). sumℤ (zipWith (λ r x. r *ℤ r) rs xs) -ℤ t +ℤ sumℤ (zipWith (λ r x. q *ℤ q *ℤ (x *ℤ x)) rs xs)) (sumℤ-zip-* (pos 2 *ℤ q) (λ r x. r *ℤ x) rs xs)

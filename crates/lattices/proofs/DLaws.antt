@@ -12,37 +12,39 @@ use Rattle.finders.specs.declared.refusals.Refusal.the-variants.{Width}
 use Rattle.finders.specs.Points.{distance, Near}
 use Rattle.finders.specs.PointFinders.{PointLaws, Lawful}
 use Rattle.finders.proofs.Answering.{fit-if-lawful}
+use Rattle.lattices.specs.Widths.{in-range}
 use Rattle.lattices.specs.LatticeZ.{rounded}
-use Rattle.lattices.specs.LatticeD.{parity, repaired, d-fit, lattice-d}
+use Rattle.lattices.specs.LatticeD.{parity, repaired, d-pick, d-fit, lattice-d}
 use Rattle.lattices.proofs.RoundedCells.{length-rounded, near-rounded, rounded-is-nearest}
 use Rattle.lattices.proofs.Repair.{repair-costs, other-parity-costs, repair-turns, near-repaired, length-repaired}
 
 -- what holds of the rounded point where its sum is even, and of the repaired one where not, holds of the pick
-by-parity : (q : ℕ) (rs : List ℤ) (P : List ℤ → Type 0) → (parity (rounded q rs) ≡ 0 → P (rounded q rs)) → ((parity (rounded q rs) ≡ 0 → ⊥) → P (repaired q rs)) → P (cond (eqb (parity (rounded q rs)) 0) (rounded q rs) (repaired q rs))
+by-parity : (q : ℕ) (rs : List ℤ) (P : List ℤ → Type 0) → (parity (rounded q rs) ≡ 0 → P (rounded q rs)) → ((parity (rounded q rs) ≡ 0 → ⊥) → P (repaired q rs)) → P (d-pick rs q)
 by-parity q rs P even odd = cond-both (eqb (parity (rounded q rs)) 0) (rounded q rs) (repaired q rs) P (λ e. even (eqb-true (parity (rounded q rs)) 0 e)) (λ e. odd (eqb-false (parity (rounded q rs)) 0 e))
 
+pub pick-is-even : (q : ℕ) (rs : List ℤ) → 1 ≤ length rs → parity (d-pick rs q) ≡ 0
+pick-is-even q rs k = by-parity q rs (λ x. parity x ≡ 0) (λ e. e) (λ o. let t = repair-turns q rs k in omega arith)
+
+pub none-is-nearer : (q : ℕ) (rs y : List ℤ) → 1 ≤ q → 1 ≤ length rs → length y ≡ length rs → parity y ≡ 0 → distance q rs (d-pick rs q) ≤ distance q rs y
+none-is-nearer q rs y p k l e = by-parity q rs (λ x. distance q rs x ≤ distance q rs y)
+    (λ _. rounded-is-nearest q rs y p l)
+    (λ o. omega (arith, repair-costs q rs p k, other-parity-costs q rs y p l (λ f. o (sym f ∙ e))))
+
 d-laws : (n : ℕ) → 1 ≤ n → n ≤ 32 → PointLaws (d-fit n)
-d-laws n h k = record
-  { some-cell = h
-  ; few-cells = k
-  ; some-reading = omega arith
-  ; small-readings = omega arith
-  ; some-step = omega arith
-  ; small-steps = omega arith
-  ; members-are-as-wide = λ x m. m .0
-  ; pick-is-a-member = λ rs q a. by-parity q rs (λ x. (length x ≡ n) × (parity x ≡ 0))
-      (λ e. (length-rounded q rs ∙ a .as-wide, e))
-      (λ o. (length-repaired q rs ∙ a .as-wide, let t = repair-turns q rs (omega (arith, a .as-wide)) in omega arith))
-  ; no-member-is-nearer = λ rs q a y m. by-parity q rs (λ x. distance q rs x ≤ distance q rs y)
-      (λ e. rounded-is-nearest q rs y (a .step-from-one) (m .0 ∙ sym (a .as-wide)))
-      (λ o.
-        let c = repair-costs q rs (a .step-from-one) (omega (arith, a .as-wide)) in
-        let d = other-parity-costs q rs y (a .step-from-one) (m .0 ∙ sym (a .as-wide)) (λ f. o (sym f ∙ m .1)) in
-        omega arith)
-  ; residues-are-small = λ rs q a. by-parity q rs (Near q rs)
-      (λ e. near-rounded q rs (a .step-from-one) (a .step-within))
-      (λ o. near-repaired q rs (a .step-from-one) (a .step-within) (omega (arith, a .as-wide)))
-  }
+d-laws n h k = record {
+  some-cell = h;
+  few-cells = k;
+  some-reading = omega arith;
+  small-readings = omega arith;
+  some-step = omega arith;
+  small-steps = omega arith;
+  members-are-as-wide = λ x m. m .0;
+  pick-is-a-member = λ rs q a. (by-parity q rs (λ x. length x ≡ n) (λ _. length-rounded q rs ∙ a .as-wide) (λ _. length-repaired q rs ∙ a .as-wide), pick-is-even q rs (omega (arith, a .as-wide)));
+  no-member-is-nearer = λ rs q a y m. none-is-nearer q rs y (a .step-from-one) (omega (arith, a .as-wide)) (m .0 ∙ sym (a .as-wide)) (m .1);
+  residues-are-small = λ rs q a. by-parity q rs (Near q rs)
+      (λ _. near-rounded q rs (a .step-from-one) (a .step-within))
+      (λ _. near-repaired q rs (a .step-from-one) (a .step-within) (omega (arith, a .as-wide)));
+}
 
 pub d-lawful : (n : ℕ) → Lawful (lattice-d n)
-d-lawful n = fit-if-lawful (leb 1 n && leb n 32) Width (d-fit n) (λ e. let p = and-parts (leb 1 n) (leb n 32) e in d-laws n (leb-true 1 n (p .0)) (leb-true n 32 (p .1)))
+d-lawful n = fit-if-lawful (in-range n) Width (d-fit n) (λ e. let p = and-parts (leb 1 n) (leb n 32) e in d-laws n (leb-true 1 n (p .0)) (leb-true n 32 (p .1)))

@@ -83,6 +83,7 @@ repair-costs q rs p = by-worst q (λ rs xs. distance q rs xs + 2 * (q * worst q 
     here r rs h =
         let m : max (left-over q r) (worst q rs) ≡ left-over q r = omega arith in
         rw (m, turned-left q r p) (omega (arith, turned-cost q (left-over q r) (omega (arith, left-over-small q r p))))
+
     later : (r : ℤ) (rs : List ℤ) → left-over q r < worst q rs → 1 ≤ length rs → distance q rs (repaired q rs) + 2 * (q * worst q rs) ≡ distance q rs (rounded q rs) + q * q → distance q (r ∷ rs) (nearest q r ∷ repaired q rs) + 2 * (q * worst q (r ∷ rs)) ≡ distance q (r ∷ rs) (rounded q (r ∷ rs)) + q * q
     later r rs h k ih =
         let m : max (left-over q r) (worst q rs) ≡ worst q rs = omega arith in
@@ -114,6 +115,7 @@ repair-turns q rs = by-worst q (λ rs xs. parity xs + parity (rounded q rs) ≡ 
   where
     here : (r : ℤ) (rs : List ℤ) → worst q rs ≤ left-over q r → parity (turned q r ∷ rounded q rs) + parity (rounded q (r ∷ rs)) ≡ 1
     here r rs h = omega (arith, ints, other-way-apart (residue q r (nearest q r)) (nearest q r))
+
     later : (r : ℤ) (rs : List ℤ) → left-over q r < worst q rs → 1 ≤ length rs → parity (repaired q rs) + parity (rounded q rs) ≡ 1 → parity (nearest q r ∷ repaired q rs) + parity (rounded q (r ∷ rs)) ≡ 1
     later r rs h k ih = omega (arith, parity-cons (nearest q r) (sumℤ (repaired q rs)), parity-cons (nearest q r) (sumℤ (rounded q rs)), ih)
 

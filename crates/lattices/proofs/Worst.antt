@@ -38,6 +38,7 @@ stands (n ∷ ns) h = go (stands ns) (leb (largest ns) n) refl
     some : (ns : List ℕ) → n < largest ns → 1 ≤ length ns
     some [] k = absurd (omega arith)
     some (m ∷ ns) k = omega arith
+
     go : (1 ≤ length ns → Stands ns) → (b : Bool) → leb (largest ns) n ≡ b → Stands (n ∷ ns)
     go ih true e = let l = leb-true (largest ns) n e in record { at = rw e (omega arith); is = rw e (omega arith); before = rw e tt }
     go ih false e =

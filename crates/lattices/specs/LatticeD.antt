@@ -1,6 +1,6 @@
 -- The lattice D: the points with an even sum.
 use mathlib.Core.Path.{_≡_}
-use mathlib.Core.Bool.{cond, _&&_}
+use mathlib.Core.Bool.{cond}
 use mathlib.Core.List.{List, [], _∷_, map}
 use Prim.Native.Nat.{ℕ, suc, max, _%_, _≤_, _<_, _^_}
 use lib.Dec.{eqb, leb}
@@ -14,6 +14,7 @@ use Rattle.finders.specs.Meanings.{Meaning, fit-if}
 use Rattle.finders.specs.PointFinders.{PointFit}
 use Rattle.finders.specs.Rounding.{other-way}
 use Rattle.lattices.specs.LatticeZ.{rounded}
+use Rattle.lattices.specs.Widths.{in-range}
 
 -- 0 for an even sum, 1 for an odd one
 abbrev pub parity : List ℤ → ℕ
@@ -50,14 +51,17 @@ turned q r = other-way (residue q r (nearest q r)) (nearest q r)
 abbrev pub repaired : ℕ → List ℤ → List ℤ
 repaired q rs = set (rounded q rs) (worst-cell q rs) (turned q (getD rs (worst-cell q rs) (pos 0)))
 
+abbrev pub d-pick : List ℤ → ℕ → List ℤ
+d-pick rs q = cond (eqb (parity (rounded q rs)) 0) (rounded q rs) (repaired q rs)
+
 abbrev pub d-fit : ℕ → PointFit
-d-fit n = record
-  { width = n
-  ; reading-limit = 2 ^ 30
-  ; step-limit = 2 ^ 20
-  ; member = λ x. (length x ≡ n) × (parity x ≡ 0)
-  ; pick = λ rs q. cond (eqb (parity (rounded q rs)) 0) (rounded q rs) (repaired q rs)
-  }
+d-fit n = record {
+  width = n;
+  reading-limit = 2 ^ 30;
+  step-limit = 2 ^ 20;
+  member = λ x. (length x ≡ n) × (parity x ≡ 0);
+  pick = d-pick;
+}
 
 abbrev pub lattice-d : ℕ → Meaning PointFit
-lattice-d n = fit-if (leb 1 n && leb n 32) Width (d-fit n)
+lattice-d n = fit-if (in-range n) Width (d-fit n)

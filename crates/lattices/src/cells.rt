@@ -3,7 +3,27 @@ ghost use Prim.Native.Nat.{ℕ, _≤_, _^_};
 ghost use lib.ListN.{length};
 ghost use Rattle.finders.specs.Points.{distance};
 ghost use Rattle.lattices.specs.LatticeZ.{rounded};
+ghost use Rattle.lattices.specs.Widths.{widest-shape};
+use finders::points::MOST_CELLS;
+use finders::points::MOST_READING;
+use finders::points::MOST_STEP;
+use finders::points::PointShape;
+use finders::refusals::Refusal;
 use finders::rounding::round;
+
+// The shape of a lattice of so many cells, with the widest limits.
+pub(super) fn shape_of(width: usize) -> Result<PointShape, Refusal>
+    ensures { λ r. ⌜ r ≡ widest-shape width ⌝ }
+{
+    if width < 1 || width > MOST_CELLS {
+        return Err(Refusal::Width);
+    }
+    Ok(PointShape {
+        width,
+        reading_limit: MOST_READING,
+        step_limit: MOST_STEP,
+    })
+}
 
 // Rounds each reading into the place, and answers the squared distance.
 pub(super) fn round_cells(readings: &[i32], step: u32, place: &mut [i32]) -> u64

@@ -9,6 +9,7 @@ ghost use Rattle.finders.specs.Points.{distance as distance-of, within};
 ghost use Rattle.lattices.specs.LatticeZ.{rounded};
 ghost use Rattle.lattices.specs.LatticeD.{lattice-d, parity, repaired, worst-cell};
 use super::cells::round_cells;
+use super::cells::shape_of;
 use finders::choice::FirstBest;
 use finders::choice::Greatest;
 use finders::choice::GreatestScore;
@@ -81,10 +82,7 @@ pub impl PointFinder for LatticeD as LatticeDFinder {
     ghost meaning = { λ d. lattice-d (d .width) };
 
     fn shape(&self) -> Result<PointShape, Refusal> {
-        if self.width < 1 || self.width > 32 {
-            return Err(Refusal::Width);
-        }
-        Ok(PointShape { width: self.width, reading_limit: 1 << 30, step_limit: 1 << 20 })
+        shape_of(self.width)
     }
 
     fn find(&self, readings: &[i32], step: u32, place: &mut [i32]) -> Result<u64, Refusal> {

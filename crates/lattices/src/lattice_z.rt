@@ -1,6 +1,7 @@
 ghost use mathlib.Core.Path.{_≡_};
 ghost use Rattle.lattices.specs.LatticeZ.{lattice-z};
 use super::cells::round_cells;
+use super::cells::shape_of;
 use finders::points::PointFinder;
 use finders::points::PointShape;
 use finders::points::PointTester;
@@ -18,10 +19,7 @@ pub impl PointFinder for LatticeZ as LatticeZFinder {
     ghost meaning = { λ z. lattice-z (z .width) };
 
     fn shape(&self) -> Result<PointShape, Refusal> {
-        if self.width < 1 || self.width > 32 {
-            return Err(Refusal::Width);
-        }
-        Ok(PointShape { width: self.width, reading_limit: 1 << 30, step_limit: 1 << 20 })
+        shape_of(self.width)
     }
 
     fn find(&self, readings: &[i32], step: u32, place: &mut [i32]) -> Result<u64, Refusal> {

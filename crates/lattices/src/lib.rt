@@ -2,3 +2,4 @@
 mod cells;
 pub mod lattice_d;
 pub mod lattice_z;
+pub mod laws;

@@ -20,7 +20,7 @@ up c =
     let d = c .divide-number .ensures in
     let half : pos (c .max-step .result) <ℤ (pos 2 *ℤ c .divide-number .result .1) = omega (arith, ints, c .if-residue-step .taken, d .remainder-is-small) in
     delivered (max (c .args .step) 1) (c .max-step .result) (c .args .reading) _ _ _ _ (c .max-step .ensures) some (c .max-step .ok) (c .fits .reading)
-      (rounds-up (c .max-step .result) _ _ _ some d half) (omega (arith, ints, d .quotient-is-small)) (omega (arith, ints, d .remainder-is-small))
+    (rounds-up (c .max-step .result) _ _ _ some d half) (omega (arith, ints, d .quotient-is-small)) (omega (arith, ints, d .remainder-is-small))
 
 down : (c : need.Then-residue-step-2) → Cast-owed (c .args .step) (c .args .reading) (toZ w64 (ofZ w64 (c .divide-number .result .0)) -ℤ pos 1) (toZ w64 (ofZ w64 (c .divide-number .result .1)) +ℤ toZ w64 (ofZ w64 (c .from-step .result)))
 down c =
@@ -28,7 +28,7 @@ down c =
     let d = c .divide-number .ensures in
     let half : (pos 2 *ℤ c .divide-number .result .1) <ℤ negℤ (pos (c .max-step .result)) = omega (arith, ints, c .if-residue-step-2 .taken, d .remainder-is-small) in
     delivered (max (c .args .step) 1) (c .max-step .result) (c .args .reading) _ _ _ _ (c .max-step .ensures) some (c .max-step .ok) (c .fits .reading)
-      (rounds-down (c .max-step .result) _ _ _ some d half) (omega (arith, ints, d .quotient-is-small)) (omega (arith, ints, d .remainder-is-small))
+    (rounds-down (c .max-step .result) _ _ _ some d half) (omega (arith, ints, d .quotient-is-small)) (omega (arith, ints, d .remainder-is-small))
 
 off : (c : need.Else-residue-step-2) → Cast-owed (c .args .step) (c .args .reading) (c .divide-number .result .0) (c .divide-number .result .1)
 off c =
@@ -39,7 +39,7 @@ off c =
     let top : (pos 2 *ℤ c .divide-number .result .1) ≤ℤ pos (c .max-step .result) = omega (arith, ints, c .if-residue-step .left, d .remainder-is-small) in
     let bottom : negℤ (pos (c .max-step .result)) ≤ℤ (pos 2 *ℤ c .divide-number .result .1) = omega (arith, ints, c .if-residue-step-2 .left, d .remainder-is-small) in
     delivered (max (c .args .step) 1) (c .max-step .result) (c .args .reading) _ _ _ _ (c .max-step .ensures) some (c .max-step .ok) (c .fits .reading)
-      (rounds-off (c .max-step .result) _ _ _ some d top bottom) (toZ-ofZ w64 _ whole) (toZ-ofZ w64 _ rest)
+    (rounds-off (c .max-step .result) _ _ _ some d top bottom) (toZ-ofZ w64 _ whole) (toZ-ofZ w64 _ rest)
 
 pub cast-result : need.cast-result
 cast-result c = up c .0

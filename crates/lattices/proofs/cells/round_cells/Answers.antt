@@ -34,9 +34,9 @@ add-distance c =
 
 pub loop-i-again : need.loop-i-again
 loop-i-again c =
-    let g : SFits w32 (c .round-cell .result .number) = search needs in
-    ( point-more (c .args .step) (c .args .readings .now) (c .loop-i .i) (c .loop-i-test .taken) (c .loop-i .place) _ (omega arith) (toZ-ofZ w32 _ g ∙ told c .0) (c .loop-i .inv .0)
-    , more c
+    let g : SFits w32 (c .round-cell .result .number) = search needs in (
+      point-more (c .args .step) (c .args .readings .now) (c .loop-i .i) (c .loop-i-test .taken) (c .loop-i .place) _ (omega arith) (toZ-ofZ w32 _ g ∙ told c .0) (c .loop-i .inv .0),
+      more c,
     )
 
 pub returns : need.returns

@@ -60,7 +60,7 @@ add-result c =
     omega (arith, mul-le-mul t t, c .pre .distance)
 
 pub returns : need.returns
-returns c = record
-  { point = repaired-as (c .args .step) (c .args .readings .now) (c .args .place .now) (c .in-Some .i) _ (c .pre .rounded) (c .in-Some .ensures tt .0) (cast-turned (c .other-way .result) (small (need.at·returns c .After-other-way)) .1 ∙ turn (need.at·returns c .After-other-way))
-  ; distance = new c .1 ∙ ap (distance (c .args .step) (c .args .readings .now)) (repaired-as (c .args .step) (c .args .readings .now) (rounded (c .args .step) (c .args .readings .now)) (c .in-Some .i) _ refl (c .in-Some .ensures tt .0) refl)
-  }
+returns c = record {
+  point = repaired-as (c .args .step) (c .args .readings .now) (c .args .place .now) (c .in-Some .i) _ (c .pre .rounded) (c .in-Some .ensures tt .0) (cast-turned (c .other-way .result) (small (need.at·returns c .After-other-way)) .1 ∙ turn (need.at·returns c .After-other-way));
+  distance = new c .1 ∙ ap (distance (c .args .step) (c .args .readings .now)) (repaired-as (c .args .step) (c .args .readings .now) (rounded (c .args .step) (c .args .readings .now)) (c .in-Some .i) _ refl (c .in-Some .ensures tt .0) refl);
+}

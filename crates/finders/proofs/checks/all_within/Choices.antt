@@ -1,7 +1,7 @@
 use mathlib.Core.Path.{_≡_}
 use lib.ListN.{drop}
 use Rattle.finders.specs.Points.{within}
-use Rattle.finders.proofs.points.all_within.Given as given
+use Rattle.finders.proofs.checks.all_within.Given as given
 
 -- what is left decides
 abbrev pub Inv-loop-number : given.InvT-loop-number

@@ -7,7 +7,7 @@ use native.Mathlib.Omega.{arith}
 use borrow.Author.Needs.{needs}
 use Rattle.std.proofs.shelf.Signed.{ints}
 use Rattle.finders.proofs.Within.{within-more, within-over, within-end}
-use Rattle.finders.proofs.points.all_within.Needs as need
+use Rattle.finders.proofs.checks.all_within.Needs as need
 
 pub returns-then-unsigned-abs-limit : need.returns-then-unsigned-abs-limit
 returns-then-unsigned-abs-limit c =
