@@ -1,6 +1,6 @@
 ghost use mathlib.Core.Path.{_≡_};
 ghost use Prim.Native.Nat.{max, _≤_};
-ghost use Rattle.integers.specs.Nearest.{nearest, residue};
+ghost use Rattle.integers.specs.Nearest.{nearest, residue as residue-at};
 ghost use Rattle.finders.specs.Rounding.{Divides, No-nearer, Towards-zero, other-way};
 
 // The whole number that a reading was rounded to, and what that leaves of the reading.
@@ -23,7 +23,7 @@ fn divide(reading: i32, step: u32) -> (i64, i64)
 // The whole number nearest to reading ÷ step, a tie towards zero. A step of 0 counts as 1.
 pub fn round(reading: i32, step: u32) -> Rounded
     ensures number { λ r. ⌜ r .number ≡ nearest (max step 1) reading ⌝ }
-    ensures residue { λ r. ⌜ r .residue ≡ residue (max step 1) reading (r .number) ⌝ }
+    ensures residue { λ r. ⌜ r .residue ≡ residue-at (max step 1) reading (r .number) ⌝ }
     ensures no_number_is_nearer { λ r. ⌜ No-nearer (max step 1) reading (r .number) ⌝ }
     ensures a_tie_goes_towards_zero { λ r. ⌜ Towards-zero (max step 1) reading (r .number) ⌝ }
 {
@@ -50,7 +50,7 @@ pub fn round(reading: i32, step: u32) -> Rounded
 
 // What a number leaves of a reading.
 pub fn residue_of(reading: i32, step: u32, number: i32) -> i64
-    ensures { λ r. ⌜ r ≡ residue step reading number ⌝ }
+    ensures { λ r. ⌜ r ≡ residue-at step reading number ⌝ }
 {
     i64::from(reading) - i64::from(step) * i64::from(number)
 }
