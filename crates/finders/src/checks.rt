@@ -6,7 +6,7 @@ use super::refusals::Refusal;
 
 // Whether no number is larger in size than a limit.
 pub fn all_within(numbers: &[i32], limit: u32) -> bool
-    ensures { λ r. ⌜ r ≡ within limit (now (numbers .entry)) ⌝ }
+    ensures tells_whether_all_are_within { λ r. ⌜ r ≡ within limit (now (numbers .entry)) ⌝ }
 {
     for number in numbers {
         if number.unsigned_abs() > limit {
@@ -19,7 +19,7 @@ pub fn all_within(numbers: &[i32], limit: u32) -> bool
 impl PointShape {
     // What a find of these readings at this step, into a place of so many numbers, is refused for.
     pub fn check_find(self, readings: &[i32], step: u32, place: usize) -> Result<(), Refusal>
-        ensures { λ r. ⌜ r ≡ find-checked (self .width) (self .«reading_limit») (self .«step_limit») (now (readings .entry)) step place ⌝ }
+        ensures is_the_first_refusal { λ r. ⌜ r ≡ find-checked (self .width) (self .«reading_limit») (self .«step_limit») (now (readings .entry)) step place ⌝ }
     {
         if readings.len() != self.width || place != self.width {
             return Err(Refusal::Length);
@@ -35,7 +35,7 @@ impl PointShape {
 
     // What a test of this point is refused for.
     pub fn check_test(self, point: &[i32]) -> Result<(), Refusal>
-        ensures { λ r. ⌜ r ≡ test-checked (self .width) (self .«reading_limit») (now (point .entry)) ⌝ }
+        ensures is_the_first_refusal { λ r. ⌜ r ≡ test-checked (self .width) (self .«reading_limit») (now (point .entry)) ⌝ }
     {
         if point.len() != self.width {
             return Err(Refusal::Length);

@@ -7,7 +7,8 @@ ghost use Rattle.std.specs.Orderings.{Decides};
 ghost use Rattle.std.specs.declared.option.Option.the-variants.{None};
 ghost use Rattle.finders.specs.Choice.{Chosen};
 
-// A score with a total order, by which of two is at least as good.
+// A score with a total order. `good a b` says that a is at least as good as b: of two scores one is, this carries along
+// a chain, and two scores each at least as good as the other are equal.
 pub trait Score: Copy {
     ghost good: { Self → Self → Type 0 };
 
@@ -18,7 +19,7 @@ pub trait Score: Copy {
     law same: { (a b : Self) → good a b → good b a → a ≡ b };
 
     fn at_least(self, other: Self) -> bool
-        ensures { λ r. ⌜ Decides r (good self other) ⌝ };
+        ensures tells_the_order { λ r. ⌜ Decides r (good self other) ⌝ };
 }
 
 // Best when least, as a distance.
@@ -53,7 +54,7 @@ pub struct FirstBest<C, S> {
 
 impl<C: Copy, S: Score> FirstBest<C, S> {
     pub fn none() -> FirstBest<C, S>
-        ensures { λ r. ⌜ r .held ≡ None ⌝ }
+        ensures holds_nothing { λ r. ⌜ r .held ≡ None ⌝ }
     {
         FirstBest { held: None }
     }

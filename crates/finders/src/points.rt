@@ -6,9 +6,10 @@ use super::refusals::Refusal;
 // The most cells of a group.
 pub const MOST_CELLS: usize = 32;
 
-// No finder takes a reading that is larger in size, or a larger step.
+// The largest size of a reading that any finder takes.
 pub const MOST_READING: u32 = 1 << 30;
 
+// The largest step that any finder takes.
 pub const MOST_STEP: u32 = 1 << 20;
 
 // How many cells the points of a finder have, the largest size of a reading, and the largest step.
@@ -27,15 +28,15 @@ pub trait PointFinder {
 
     // The width and the limits, or the refusal that made the finder unfit.
     fn shape(&self) -> Result<PointShape, Refusal>
-        ensures { λ r. ⌜ r ≡ shape-of (meaning (now (self .entry))) ⌝ };
+        ensures tells_the_shape { λ r. ⌜ r ≡ shape-of (meaning (now (self .entry))) ⌝ };
 
     // Writes the pick into the place and answers its squared distance.
     fn find(&self, readings: &[i32], step: u32, place: &mut [i32]) -> Result<u64, Refusal>
-        ensures answer { λ r. ⌜ r ≡ find-answer (meaning (now (self .entry))) (now (readings .entry)) step (now (place .entry)) ⌝ }
-        ensures place { λ _. ⌜ now (place .exit) ≡ find-place (meaning (now (self .entry))) (now (readings .entry)) step (now (place .entry)) ⌝ };
+        ensures answers_the_distance { λ r. ⌜ r ≡ find-answer (meaning (now (self .entry))) (now (readings .entry)) step (now (place .entry)) ⌝ }
+        ensures writes_the_pick { λ _. ⌜ now (place .exit) ≡ find-place (meaning (now (self .entry))) (now (readings .entry)) step (now (place .entry)) ⌝ };
 
     fn fitness(&self) -> Result<(), Refusal>
-        ensures { λ r. ⌜ r ≡ fitness-of (meaning (now (self .entry))) ⌝ }
+        ensures tells_fitness { λ r. ⌜ r ≡ fitness-of (meaning (now (self .entry))) ⌝ }
     {
         match self.shape() {
             Ok(_) => Ok(()),
@@ -44,7 +45,7 @@ pub trait PointFinder {
     }
 
     fn width(&self) -> usize
-        ensures { λ r. ⌜ r ≡ width-of (meaning (now (self .entry))) ⌝ }
+        ensures tells_the_width { λ r. ⌜ r ≡ width-of (meaning (now (self .entry))) ⌝ }
     {
         match self.shape() {
             Ok(shape) => shape.width,
@@ -53,7 +54,7 @@ pub trait PointFinder {
     }
 
     fn reading_limit(&self) -> u32
-        ensures { λ r. ⌜ r ≡ reading-limit-of (meaning (now (self .entry))) ⌝ }
+        ensures tells_the_reading_limit { λ r. ⌜ r ≡ reading-limit-of (meaning (now (self .entry))) ⌝ }
     {
         match self.shape() {
             Ok(shape) => shape.reading_limit,
@@ -62,7 +63,7 @@ pub trait PointFinder {
     }
 
     fn step_limit(&self) -> u32
-        ensures { λ r. ⌜ r ≡ step-limit-of (meaning (now (self .entry))) ⌝ }
+        ensures tells_the_step_limit { λ r. ⌜ r ≡ step-limit-of (meaning (now (self .entry))) ⌝ }
     {
         match self.shape() {
             Ok(shape) => shape.step_limit,
@@ -75,5 +76,5 @@ pub trait PointFinder {
 pub trait PointTester: PointFinder {
     // Whether a point belongs to the set.
     fn contains(&self, point: &[i32]) -> Result<bool, Refusal>
-        ensures { λ r. ⌜ Contains (Self·PointFinder .meaning (now (self .entry))) (now (point .entry)) r ⌝ };
+        ensures yes_exactly_for_members { λ r. ⌜ Contains (Self·PointFinder .meaning (now (self .entry))) (now (point .entry)) r ⌝ };
 }

@@ -22,8 +22,8 @@ fn divide(reading: i32, step: u32) -> (i64, i64)
 
 // The whole number nearest to reading ÷ step, a tie towards zero. A step of 0 counts as 1.
 pub fn round(reading: i32, step: u32) -> Rounded
-    ensures number { λ r. ⌜ r .number ≡ nearest (max step 1) reading ⌝ }
-    ensures residue { λ r. ⌜ r .residue ≡ residue-at (max step 1) reading (r .number) ⌝ }
+    ensures is_the_nearest_number { λ r. ⌜ r .number ≡ nearest (max step 1) reading ⌝ }
+    ensures leaves_the_residue { λ r. ⌜ r .residue ≡ residue-at (max step 1) reading (r .number) ⌝ }
     ensures no_number_is_nearer { λ r. ⌜ No-nearer (max step 1) reading (r .number) ⌝ }
     ensures a_tie_goes_towards_zero { λ r. ⌜ Towards-zero (max step 1) reading (r .number) ⌝ }
 {
@@ -50,7 +50,7 @@ pub fn round(reading: i32, step: u32) -> Rounded
 
 // What a number leaves of a reading.
 pub fn residue_of(reading: i32, step: u32, number: i32) -> i64
-    ensures { λ r. ⌜ r ≡ residue-at step reading number ⌝ }
+    ensures is_what_the_number_leaves { λ r. ⌜ r ≡ residue-at step reading number ⌝ }
 {
     i64::from(reading) - i64::from(step) * i64::from(number)
 }
@@ -58,7 +58,7 @@ pub fn residue_of(reading: i32, step: u32, number: i32) -> i64
 impl Rounded {
     // The number on the other side of the reading: the second nearest, or for residue zero the next away from zero.
     pub fn other_way(self) -> i64
-        ensures { λ r. ⌜ r ≡ other-way (self .residue) (self .number) ⌝ }
+        ensures is_the_other_way { λ r. ⌜ r ≡ other-way (self .residue) (self .number) ⌝ }
     {
         let number = i64::from(self.number);
         if self.residue > 0 || (self.residue == 0 && self.number >= 0) {

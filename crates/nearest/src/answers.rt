@@ -33,7 +33,7 @@ fn point_text(heap: Global, point: &[i32], distance: u64) -> Result<String, Allo
 impl Answer {
     // The line that is printed.
     pub fn text(&self, heap: Global) -> Result<String, AllocError>
-        ensures { λ r. ⌜ made r (λ s. string-bytes s ≡ answer-text (now (self .entry))) ⌝ }
+        ensures is_the_text_of_the_answer { λ r. ⌜ made r (λ s. string-bytes s ≡ answer-text (now (self .entry))) ⌝ }
     {
         match self {
             Answer::Nearest(point, distance) => point_text(heap, point, *distance),

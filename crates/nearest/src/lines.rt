@@ -87,7 +87,7 @@ fn answer(heap: Global, words: &[&str]) -> Result<Answer, AllocError>
 
 // The line that is printed for a line that was read.
 pub fn respond(heap: Global, line: &str) -> Result<String, AllocError>
-    ensures { λ r. ⌜ made r (λ s. Responds (now (line .entry)) (string-bytes s)) ⌝ }
+    ensures answers_the_words_of_the_line { λ r. ⌜ made r (λ s. Responds (now (line .entry)) (string-bytes s)) ⌝ }
 {
     let words = words(heap, line)?;
     answer(heap, &words)?.text(heap)

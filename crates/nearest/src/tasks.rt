@@ -18,7 +18,7 @@ pub enum Lattice {
 
 impl Lattice {
     pub fn named(name: &str) -> Option<Lattice>
-        ensures { λ r. ⌜ r ≡ named (now (name .entry)) ⌝ }
+        ensures is_the_lattice_of_that_name { λ r. ⌜ r ≡ named (now (name .entry)) ⌝ }
     {
         match name {
             "Z" => Some(Lattice::Z),
@@ -29,8 +29,8 @@ impl Lattice {
 
     // The nearest point, as many cells as readings.
     pub fn find(self, readings: &[i32], step: u32, place: &mut [i32]) -> Result<u64, Refusal>
-        ensures answer { λ r. ⌜ r ≡ find-answer (meaning-of self (length (now (readings .entry)))) (now (readings .entry)) step (now (place .entry)) ⌝ }
-        ensures place { λ _. ⌜ now (place .exit) ≡ find-place (meaning-of self (length (now (readings .entry)))) (now (readings .entry)) step (now (place .entry)) ⌝ }
+        ensures answers_the_distance { λ r. ⌜ r ≡ find-answer (meaning-of self (length (now (readings .entry)))) (now (readings .entry)) step (now (place .entry)) ⌝ }
+        ensures writes_the_pick { λ _. ⌜ now (place .exit) ≡ find-place (meaning-of self (length (now (readings .entry)))) (now (readings .entry)) step (now (place .entry)) ⌝ }
     {
         match self {
             Lattice::Z => LatticeZ::new(readings.len()).find(readings, step, place),

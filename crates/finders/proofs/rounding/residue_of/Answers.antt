@@ -8,4 +8,4 @@ pub sub-result : need.sub-result
 sub-result c = machine-residue (c .args .step) (c .args .reading) (c .args .number) (c .from .result) (c .from-2 .result) (c .from-3 .result) (c .fits .step .fits) (c .fits .reading) (c .fits .number) (c .from .ensures) (c .from-2 .ensures) (c .from-3 .ensures) .1
 
 pub returns : need.returns
-returns c = machine-residue (c .args .step) (c .args .reading) (c .args .number) (c .from .result) (c .from-2 .result) (c .from-3 .result) (c .fits .step .fits) (c .fits .reading) (c .fits .number) (c .from .ensures) (c .from-2 .ensures) (c .from-3 .ensures) .2
+returns c = record { is-what-the-number-leaves = machine-residue (c .args .step) (c .args .reading) (c .args .number) (c .from .result) (c .from-2 .result) (c .from-3 .result) (c .fits .step .fits) (c .fits .reading) (c .fits .number) (c .from .ensures) (c .from-2 .ensures) (c .from-3 .ensures) .2 }

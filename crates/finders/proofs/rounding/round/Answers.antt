@@ -45,13 +45,13 @@ pub cast-result : need.cast-result
 cast-result c = up c .0
 
 pub returns-then-residue-step : need.returns-then-residue-step
-returns-then-residue-step c = let o = up c .2 in record { number = o .number; residue = o .leaves; no-number-is-nearer = o .no-nearer; a-tie-goes-towards-zero = o .towards-zero }
+returns-then-residue-step c = let o = up c .2 in record { is-the-nearest-number = o .number; leaves-the-residue = o .leaves; no-number-is-nearer = o .no-nearer; a-tie-goes-towards-zero = o .towards-zero }
 
 pub cast-result-then-residue-step-2 : need.cast-result-then-residue-step-2
 cast-result-then-residue-step-2 c = down c .0
 
 pub returns-then-residue-step-2 : need.returns-then-residue-step-2
-returns-then-residue-step-2 c = let o = down c .2 in record { number = o .number; residue = o .leaves; no-number-is-nearer = o .no-nearer; a-tie-goes-towards-zero = o .towards-zero }
+returns-then-residue-step-2 c = let o = down c .2 in record { is-the-nearest-number = o .number; leaves-the-residue = o .leaves; no-number-is-nearer = o .no-nearer; a-tie-goes-towards-zero = o .towards-zero }
 
 pub cast-result-else-residue-step-2 : need.cast-result-else-residue-step-2
 cast-result-else-residue-step-2 c = off c .0
@@ -60,4 +60,4 @@ pub cast-result-else-residue-step-2-2 : need.cast-result-else-residue-step-2-2
 cast-result-else-residue-step-2-2 c = off c .1
 
 pub returns-else-residue-step-2 : need.returns-else-residue-step-2
-returns-else-residue-step-2 c = let o = off c .2 in record { number = o .number; residue = o .leaves; no-number-is-nearer = o .no-nearer; a-tie-goes-towards-zero = o .towards-zero }
+returns-else-residue-step-2 c = let o = off c .2 in record { is-the-nearest-number = o .number; leaves-the-residue = o .leaves; no-number-is-nearer = o .no-nearer; a-tie-goes-towards-zero = o .towards-zero }

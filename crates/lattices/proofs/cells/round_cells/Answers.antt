@@ -18,7 +18,7 @@ told : (c : need.After-from-size) → let z = getD (c .args .readings .now) (c .
     (c .round-cell .result .number ≡ nearest (c .args .step) z) × (c .round-cell .result .residue ≡ residue (c .args .step) z (nearest (c .args .step) z))
 told c =
     let f : SFits w32 (getD (c .args .readings .now) (c .loop-i .i) (pos 0)) = search needs in
-    round-told (c .args .step) _ _ _ (c .pre .some-step) f (c .round-cell .ensures .number) (c .round-cell .ensures .residue)
+    round-told (c .args .step) _ _ _ (c .pre .some-step) f (c .round-cell .ensures .is-the-nearest-number) (c .round-cell .ensures .leaves-the-residue)
 
 more : (c : need.After-from-size) → let rs = take (c .loop-i .i + 1) (c .args .readings .now) in
     c .loop-i .distance + c .from-size .result * c .from-size .result ≡ distance (c .args .step) rs (rounded (c .args .step) rs)

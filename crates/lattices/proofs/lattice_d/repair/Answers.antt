@@ -23,10 +23,10 @@ cell : (c : need.After-other-way) → let z = getD (c .args .readings .now) (c .
     (c .round-cell .result .number ≡ nearest (c .args .step) z) × (c .round-cell .result .residue ≡ residue (c .args .step) z (nearest (c .args .step) z))
 cell c =
     let f : SFits w32 (getD (c .args .readings .now) (c .in-Some .i) (pos 0)) = search needs in
-    round-told (c .args .step) _ _ _ (c .pre .some-step) f (c .round-cell .ensures .number) (c .round-cell .ensures .residue)
+    round-told (c .args .step) _ _ _ (c .pre .some-step) f (c .round-cell .ensures .is-the-nearest-number) (c .round-cell .ensures .leaves-the-residue)
 
 turn : (c : need.After-other-way) → c .other-way .result ≡ turned (c .args .step) (getD (c .args .readings .now) (c .in-Some .i) (pos 0))
-turn c = c .other-way .ensures ∙ ap₂ other-way (cell c .1) (cell c .0)
+turn c = c .other-way .ensures .is-the-other-way ∙ ap₂ other-way (cell c .1) (cell c .0)
 
 small : (c : need.After-other-way) → natAbs (c .other-way .result) ≤ 2 ^ 30 + 1
 small c = rw (turn c) (turned-small (c .args .step) (c .args .readings .now) (c .in-Some .i) (c .pre .some-step) (c .pre .small-readings) (c .in-Some .ensures tt .1))

@@ -25,7 +25,7 @@ size : (c : need.After-residue-of) → natAbs (c .residue-of .result) ≡ left-o
 size c =
     let f : SFits w32 (getD (c .args .readings .now) (c .loop-i .i) (pos 0)) = search needs in
     let g : SFits w32 (getD (c .args .point .now) (c .loop-i .i) (pos 0)) = search needs in
-    residue-told (c .args .step) _ _ (c .residue-of .result) f g (c .residue-of .ensures) (rounded-at (c .args .step) (c .args .readings .now) (c .args .point .now) (c .loop-i .i) (c .pre .rounded) (c .loop-i-test .taken))
+    residue-told (c .args .step) _ _ (c .residue-of .result) f g (c .residue-of .ensures .is-what-the-number-leaves) (rounded-at (c .args .step) (c .args .readings .now) (c .args .point .now) (c .loop-i .i) (c .pre .rounded) (c .loop-i-test .taken))
 
 -- what is held in the end
 all-offered : (c : need.After-loop-i) → Chosen at-least (offered 0 (map (left-over (c .args .step)) (c .args .readings .now))) (c .loop-i .worst .held)

@@ -20,5 +20,5 @@ returns-in-Some c =
     let some : 1 ≤ length (c .args .words .now) = search needs in
     let behind = map (λ (w : RefT (List ℕ)). now w) (take (length (c .args .words .now) - 1) (drop 1 (c .args .words .now))) in
     made-weaker (c .asked .result) (λ a. Told (Some (c .in-Some .lattice)) behind a) (λ a. Answers (map (λ w. now w) (c .args .words .now)) a)
-    (λ a t. answers-some (c .args .words .now) _ a some (subst (λ (o : Option Lattice). Told o behind a) (c .in-Some .ensures tt) t))
+    (λ a t. answers-some (c .args .words .now) _ a some (subst (λ (o : Option Lattice). Told o behind a) (c .in-Some .ensures tt .is-the-lattice-of-that-name) t))
     (c .asked .ensures)

@@ -14,4 +14,4 @@ returns c =
     let ws = map (λ (w : RefT (List ℕ)). now w) (vec-items (c .in-Continue-words .words)) in
     let a = c .in-Continue-answer .field-0 in
     let h : Answers ws a = subst (λ (v : List (RefT (List ℕ))). Answers (map (λ w. now w) v) a) (c .deref .ensures .value) (c .in-Continue-answer .ensures tt) in
-    made-weaker (c .text .result) (λ s. string-bytes s ≡ answer-text a) (λ s. Responds (c .args .line .now) (string-bytes s)) (λ s e. (ws, a, c .in-Continue-words .ensures tt, h, e)) (c .text .ensures)
+    record { answers-the-words-of-the-line = made-weaker (c .text .result) (λ s. string-bytes s ≡ answer-text a) (λ s. Responds (c .args .line .now) (string-bytes s)) (λ s e. (ws, a, c .in-Continue-words .ensures tt, h, e)) (c .text .ensures .is-the-text-of-the-answer) }
