@@ -1,5 +1,6 @@
 pub mod Distances
 pub mod Within
-pub mod Answering
+pub mod Fitness
 pub mod Choosing
 pub mod RoundingLaws
+pub mod RoundingBits

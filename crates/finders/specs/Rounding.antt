@@ -4,13 +4,12 @@ use Prim.Native.Nat.{ℕ, zero, suc, _≤_, _<_}
 use lib.IntN.{ℤ, pos, negsuc, _+ℤ_, _*ℤ_, natAbs}
 use Rattle.integers.specs.Nearest.{residue, Side}
 
--- n and m are the quotient and the remainder of r by q, both on r's side of zero
+-- n and m are the quotient of r by q, cut off towards zero, and the remainder, which is on r's side of zero
 pub record Divides (q : ℕ) (r n m : ℤ) : Type 0 where
   pub parts : r ≡ pos q *ℤ n +ℤ m
   pub remainder-is-small : natAbs m < q
   pub remainder-side : Side r m
   pub quotient-is-small : natAbs n ≤ natAbs r
-  pub quotient-side : Side r n
 
 -- x is nearest to r ÷ q
 abbrev pub No-nearer : ℕ → ℤ → ℤ → Type 0

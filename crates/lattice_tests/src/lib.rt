@@ -41,20 +41,38 @@ mod tests {
         let mut place = [7, 8];
         let d = LatticeD::new(2);
         check_eq(d.find(&[0], 0, &mut place), Err(Refusal::Length))?;
-        check_eq(d.find(&[0, 1073741825], 0, &mut place), Err(Refusal::Magnitude))?;
+        check_eq(
+            d.find(&[0, 1073741825], 0, &mut place),
+            Err(Refusal::Magnitude),
+        )?;
         check_eq(d.find(&[0, -1073741824], 0, &mut place), Err(Refusal::Step))?;
-        check_eq(d.find(&[0, 1073741824], 1048577, &mut place), Err(Refusal::Step))?;
-        check_eq(LatticeZ::new(1).find(&[0], 1, &mut place), Err(Refusal::Length))?;
-        check_eq(LatticeZ::new(3).find(&[0, 0, 0], 1, &mut place), Err(Refusal::Length))?;
+        check_eq(
+            d.find(&[0, 1073741824], 1048577, &mut place),
+            Err(Refusal::Step),
+        )?;
+        check_eq(
+            LatticeZ::new(1).find(&[0], 1, &mut place),
+            Err(Refusal::Length),
+        )?;
+        check_eq(
+            LatticeZ::new(3).find(&[0, 0, 0], 1, &mut place),
+            Err(Refusal::Length),
+        )?;
         check_eq(place, [7, 8])
     }
 
     #[test]
     fn exact_levels_with_an_odd_sum_are_repaired() -> Result<(), Fail> {
         let mut place = [9; 4];
-        check_eq(LatticeD::new(4).find(&[10, 0, 0, 0], 10, &mut place), Ok(100))?;
+        check_eq(
+            LatticeD::new(4).find(&[10, 0, 0, 0], 10, &mut place),
+            Ok(100),
+        )?;
         check_eq(place, [2, 0, 0, 0])?;
-        check_eq(LatticeD::new(4).find(&[10, 0, 0, 0], 10, &mut place), Ok(100))?;
+        check_eq(
+            LatticeD::new(4).find(&[10, 0, 0, 0], 10, &mut place),
+            Ok(100),
+        )?;
         check_eq(place, [2, 0, 0, 0])?;
         check_eq(LatticeZ::new(4).find(&[10, 0, 0, 0], 10, &mut place), Ok(0))?;
         check_eq(place, [1, 0, 0, 0])
@@ -65,9 +83,18 @@ mod tests {
         check_eq(LatticeZ::new(2).contains(&[1, 2]), Ok(true))?;
         check_eq(LatticeD::new(2).contains(&[1, 2]), Ok(false))?;
         check_eq(LatticeD::new(2).contains(&[-1, 3]), Ok(true))?;
-        check_eq(LatticeD::new(2).contains(&[-1073741824, 1073741824]), Ok(true))?;
+        check_eq(
+            LatticeD::new(2).contains(&[-1073741824, 1073741824]),
+            Ok(true),
+        )?;
         check_eq(LatticeD::new(2).contains(&[1]), Err(Refusal::Length))?;
-        check_eq(LatticeD::new(2).contains(&[0, 1073741825]), Err(Refusal::Magnitude))?;
-        check_eq(LatticeZ::new(1).contains(&[-1073741825]), Err(Refusal::Magnitude))
+        check_eq(
+            LatticeD::new(2).contains(&[0, 1073741825]),
+            Err(Refusal::Magnitude),
+        )?;
+        check_eq(
+            LatticeZ::new(1).contains(&[-1073741825]),
+            Err(Refusal::Magnitude),
+        )
     }
 }

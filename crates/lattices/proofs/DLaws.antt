@@ -11,7 +11,7 @@ use Rattle.std.proofs.shelf.Tests.{leb-true, eqb-true, eqb-false, and-parts, co
 use Rattle.finders.specs.declared.refusals.Refusal.the-variants.{Width}
 use Rattle.finders.specs.Points.{distance, Near}
 use Rattle.finders.specs.PointFinders.{PointLaws, Lawful}
-use Rattle.finders.proofs.Answering.{fit-if-lawful}
+use Rattle.finders.proofs.Fitness.{fit-if-lawful}
 use Rattle.lattices.specs.Widths.{in-range}
 use Rattle.lattices.specs.LatticeZ.{rounded}
 use Rattle.lattices.specs.LatticeD.{parity, repaired, d-pick, d-fit, lattice-d}

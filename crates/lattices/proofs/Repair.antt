@@ -56,7 +56,7 @@ module _ (q : ℕ) (P : List ℤ → List ℤ → Type 0)
 
 -- ---- sizes
 pub left-over-small : (q : ℕ) (r : ℤ) → 1 ≤ q → 2 * left-over q r ≤ q
-left-over-small q r h = nearest-near r q h
+left-over-small q r h = nearest-near q r h
 
 pub turned-left : (q : ℕ) (r : ℤ) → 1 ≤ q → natAbs (residue q r (turned q r)) ≡ q - left-over q r
 turned-left q r h = other-way-left q r (nearest q r) (omega (arith, left-over-small q r h))
@@ -104,7 +104,7 @@ other-parity-costs q (r ∷ rs) (y ∷ ys) p e n = go (ℤ-discrete y (nearest q
         let more : q * worst q rs ≤ q * max (left-over q r) (worst q rs) = mul-le-mul-left q (omega arith) in
         rw d (omega arith)
     go (no d) ih =
-        let c = cost q (left-over q r) (natAbs (residue q r y)) (omega (arith, left-over-small q r p)) (nearest-next r q y p d) in
+        let c = cost q (left-over q r) (natAbs (residue q r y)) (omega (arith, left-over-small q r p)) (nearest-next q r y p d) in
         let rest = rounded-is-nearest q rs ys p (omega arith) in
         let more : q * left-over q r ≤ q * max (left-over q r) (worst q rs) = mul-le-mul-left q (omega arith) in
         omega arith
@@ -147,7 +147,7 @@ turned-distance q rs i s t d p h es et ed =
 pub turned-small : (q : ℕ) (rs : List ℤ) (i : ℕ) → 1 ≤ q → within (2 ^ 30) rs ≡ true → i < length rs → natAbs (turned q (getD rs i (pos 0))) ≤ 2 ^ 30 + 1
 turned-small q rs i p h k =
     let r = getD rs i (pos 0) in
-    let b = within-at (2 ^ 30) rs i h k in let n = nearest-small r q p in let a = other-way-apart (residue q r (nearest q r)) (nearest q r) in
+    let b = within-at (2 ^ 30) rs i h k in let n = nearest-small q r p in let a = other-way-apart (residue q r (nearest q r)) (nearest q r) in
     omega (arith, ints)
 
 pub cast-turned : (t : ℤ) → natAbs t ≤ 2 ^ 30 + 1 → SFits w32 (toZ w64 (ofZ w64 t)) × (toZ w32 (ofZ w32 (toZ w64 (ofZ w64 t))) ≡ t)

@@ -21,13 +21,13 @@ length-rounded q rs = length-map rs (nearest q)
 
 pub near-rounded : (q : ℕ) (rs : List ℤ) → 1 ≤ q → q ≤ 2 ^ 20 → Near q rs (rounded q rs)
 near-rounded q [] h k = tt
-near-rounded q (r ∷ rs) h k = (omega (arith, nearest-near r q h), near-rounded q rs h k)
+near-rounded q (r ∷ rs) h k = (omega (arith, nearest-near q r h), near-rounded q rs h k)
 
 pub rounded-is-nearest : (q : ℕ) (rs xs : List ℤ) → 1 ≤ q → length xs ≡ length rs → distance q rs (rounded q rs) ≤ distance q rs xs
 rounded-is-nearest q [] xs h e = omega arith
 rounded-is-nearest q (r ∷ rs) [] h e = omega arith
 rounded-is-nearest q (r ∷ rs) (x ∷ xs) h e =
-    let b = nearest-best r q x h in
+    let b = nearest-best q r x h in
     omega (arith, mul-le-mul b b, rounded-is-nearest q rs xs h (omega arith))
 
 -- what rounding gives is passed through 32 bits, at a step that is no less than 1

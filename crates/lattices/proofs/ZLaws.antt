@@ -7,7 +7,7 @@ use lib.Dec.{leb}
 use Rattle.std.proofs.shelf.Tests.{leb-true, and-parts}
 use Rattle.finders.specs.declared.refusals.Refusal.the-variants.{Width}
 use Rattle.finders.specs.PointFinders.{PointLaws, Lawful}
-use Rattle.finders.proofs.Answering.{fit-if-lawful}
+use Rattle.finders.proofs.Fitness.{fit-if-lawful}
 use Rattle.lattices.specs.Widths.{in-range}
 use Rattle.lattices.specs.LatticeZ.{rounded, z-fit, lattice-z}
 use Rattle.lattices.proofs.RoundedCells.{length-rounded, near-rounded, rounded-is-nearest}

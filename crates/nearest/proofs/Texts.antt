@@ -25,7 +25,7 @@ use Rattle.finders.specs.declared.refusals.Refusal.the-variants.{Kind}
 use Rattle.finders.specs.Meanings.{Meaning, fit, unfit, answered, placed}
 use Rattle.finders.specs.Points.{distance}
 use Rattle.finders.specs.PointFinders.{PointFit, find-grant, find-answer, find-place, find-checked}
-use Rattle.finders.proofs.Answering.{not-err}
+use Rattle.finders.proofs.Fitness.{not-err}
 use Rattle.nearest.specs.declared.answers.Answer.{Answer}
 use Rattle.nearest.specs.declared.answers.Answer.the-variants.{Nearest, Refused, Unreadable}
 use Rattle.nearest.specs.declared.tasks.Lattice.{Lattice}

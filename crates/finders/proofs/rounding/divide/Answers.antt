@@ -1,4 +1,4 @@
-use Rattle.finders.proofs.RoundingLaws.{machine-divides}
+use Rattle.finders.proofs.RoundingBits.{machine-divides}
 use Rattle.finders.proofs.rounding.divide.Needs as need
 
 pub returns : need.returns

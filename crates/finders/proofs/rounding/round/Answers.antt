@@ -5,16 +5,17 @@ use borrow.Author.Needs.{needs}
 use lib.IntN.{ℤ, pos, negℤ, _+ℤ_, _-ℤ_, _*ℤ_}
 use lib.Signed.{_<ℤ_, _≤ℤ_}
 use mir.Syntax.{w32, w64}
-use mir.Val.{SFits, toZ, ofZ}
+use mir.Val.{SFits}
 use Rattle.std.proofs.shelf.Signed.{ints, toZ-ofZ}
-use Rattle.finders.proofs.RoundingLaws.{rounds-up, rounds-down, rounds-off, Owed, delivered}
+use Rattle.finders.proofs.RoundingBits.{wide, narrow, Owed, delivered}
+use Rattle.finders.proofs.RoundingLaws.{rounds-up, rounds-down, rounds-off}
 use Rattle.finders.proofs.rounding.round.Needs as need
 
 -- what is owed of the number X and the residue Y of 64 bits, as they are cast to 32
 abbrev Cast-owed : ℕ → ℤ → ℤ → ℤ → Type 0
-Cast-owed s r X Y = SFits w32 (toZ w64 (ofZ w64 X)) × SFits w32 (toZ w64 (ofZ w64 Y)) × Owed (max s 1) r (toZ w32 (ofZ w32 (toZ w64 (ofZ w64 X)))) (toZ w32 (ofZ w32 (toZ w64 (ofZ w64 Y))))
+Cast-owed s r X Y = SFits w32 (wide X) × SFits w32 (wide Y) × Owed (max s 1) r (narrow (wide X)) (narrow (wide Y))
 
-up : (c : need.Then-residue-step) → Cast-owed (c .args .step) (c .args .reading) (toZ w64 (ofZ w64 (c .divide-number .result .0)) +ℤ pos 1) (toZ w64 (ofZ w64 (c .divide-number .result .1)) -ℤ toZ w64 (ofZ w64 (c .from-step .result)))
+up : (c : need.Then-residue-step) → Cast-owed (c .args .step) (c .args .reading) (wide (c .divide-number .result .0) +ℤ pos 1) (wide (c .divide-number .result .1) -ℤ wide (c .from-step .result))
 up c =
     let some : 1 ≤ c .max-step .result = omega arith in
     let d = c .divide-number .ensures in
@@ -22,7 +23,7 @@ up c =
     delivered (max (c .args .step) 1) (c .max-step .result) (c .args .reading) _ _ _ _ (c .max-step .ensures) some (c .max-step .ok) (c .fits .reading)
     (rounds-up (c .max-step .result) _ _ _ some d half) (omega (arith, ints, d .quotient-is-small)) (omega (arith, ints, d .remainder-is-small))
 
-down : (c : need.Then-residue-step-2) → Cast-owed (c .args .step) (c .args .reading) (toZ w64 (ofZ w64 (c .divide-number .result .0)) -ℤ pos 1) (toZ w64 (ofZ w64 (c .divide-number .result .1)) +ℤ toZ w64 (ofZ w64 (c .from-step .result)))
+down : (c : need.Then-residue-step-2) → Cast-owed (c .args .step) (c .args .reading) (wide (c .divide-number .result .0) -ℤ pos 1) (wide (c .divide-number .result .1) +ℤ wide (c .from-step .result))
 down c =
     let some : 1 ≤ c .max-step .result = omega arith in
     let d = c .divide-number .ensures in
