@@ -108,6 +108,18 @@ find-answer M rs q place = answered (find-grant M rs q (length place)) (distance
 abbrev pub find-place : Meaning PointFit → List ℤ → ℕ → List ℤ → List ℤ
 find-place M rs q place = placed (find-grant M rs q (length place)) (picked M rs q place) place
 
+-- x is a member at the squared distance d, and no member is nearer
+pub record IsNearestMember (M : Meaning PointFit) (rs : List ℤ) (q : ℕ) (x : List ℤ) (d : ℕ) : Type 0 where
+  pub is-a-member : Member M x
+  pub is-at-the-distance : distance q rs x ≡ d
+  pub no-member-is-nearer : (y : List ℤ) → Member M y → d ≤ distance q rs y
+  pub has-small-residues : Near q rs x
+
+-- what a find comes to, in a word: the nearest member is written and its distance answered, or nothing is written
+abbrev pub Outcome : Meaning PointFit → List ℤ → ℕ → List ℤ → List ℤ → Result ℕ Refusal → Type 0
+Outcome M rs q before after (Ok d) = IsNearestMember M rs q after d
+Outcome M rs q before after (Err e) = after ≡ before
+
 -- ---- what a test is refused for, first that applies
 
 abbrev pub test-checked : (width reading-limit : ℕ) → List ℤ → Result (Unit {0}) Refusal

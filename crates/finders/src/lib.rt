@@ -1,5 +1,6 @@
 // What every finder of this library is: refusals, points and distances, the interfaces with their meaning, and the
 // two things that the searches share, rounding one cell and choosing the first best.
+pub mod laws;
 pub mod points;
 pub mod refusals;
 

@@ -1,6 +1,6 @@
 ghost use mathlib.Core.Path.{_≡_};
 ghost use lib.ListN.{length};
-ghost use Rattle.finders.specs.PointFinders.{find-answer, find-place};
+ghost use Rattle.finders.specs.PointFinders.{find-answer, find-place, Outcome};
 ghost use Rattle.nearest.specs.Tasks.{named, meaning-of};
 use finders::points::PointFinder;
 use finders::refusals::Refusal;
@@ -31,6 +31,7 @@ impl Lattice {
     pub fn find(self, readings: &[i32], step: u32, place: &mut [i32]) -> Result<u64, Refusal>
         ensures answers_the_distance { λ r. ⌜ r ≡ find-answer (meaning-of self (length (now (readings .entry)))) (now (readings .entry)) step (now (place .entry)) ⌝ }
         ensures writes_the_pick { λ _. ⌜ now (place .exit) ≡ find-place (meaning-of self (length (now (readings .entry)))) (now (readings .entry)) step (now (place .entry)) ⌝ }
+        ensures gives_the_nearest_member { λ r. ⌜ Outcome (meaning-of self (length (now (readings .entry)))) (now (readings .entry)) step (now (place .entry)) (now (place .exit)) r ⌝ }
     {
         match self {
             Lattice::Z => LatticeZ::new(readings.len()).find(readings, step, place),
