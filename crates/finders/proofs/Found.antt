@@ -1,6 +1,6 @@
 -- What any finder finds is nearest, by the laws of its meaning.
 use mathlib.Core.Path.{_≡_, refl, sym, ap}
-use mathlib.Core.Bool.{Bool, true, false, cond, _&&_}
+use mathlib.Core.Bool.{Bool, true, false, _&&_}
 use mathlib.Core.List.{List}
 use Prim.Native.Nat.{ℕ}
 use lib.Dec.{eqb, leb}
@@ -11,13 +11,13 @@ use Rattle.std.specs.declared.result.Result.{Result}
 use Rattle.std.specs.declared.result.Result.the-variants.{Ok, Err}
 use Rattle.finders.specs.declared.refusals.Refusal.{Refusal}
 use Rattle.finders.specs.declared.refusals.Refusal.the-variants.{Length, Magnitude, Step}
-use Rattle.finders.specs.Meanings.{Meaning, fit, unfit, answered, placed}
+use Rattle.finders.specs.Meanings.{Meaning, fit, unfit, checked, answered, placed}
 use Rattle.finders.specs.Points.{distance, within}
 use Rattle.finders.specs.PointFinders.{PointFit, PointLaws, Lawful, Asked, IsNearestMember, Outcome, Same, find-checked, find-answer, find-place}
 use Rattle.finders.proofs.Fitness.{not-err}
 
 -- a test that a grant has passed
-passed : (b : Bool) (e : Refusal) (r : Result (Unit {0}) Refusal) → cond b r (Err e) ≡ Ok tt → (b ≡ true) × (r ≡ Ok tt)
+passed : (b : Bool) (e : Refusal) (r : Result (Unit {0}) Refusal) → checked b e r ≡ Ok tt → (b ≡ true) × (r ≡ Ok tt)
 passed true e r h = (refl, h)
 passed false e r h = absurd (not-err (sym h))
 

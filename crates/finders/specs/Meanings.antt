@@ -1,6 +1,6 @@
 -- The meaning of a finder: fit, with what that brings, or unfit by the refusal that made it so.
 use mathlib.Core.Path.{_≡_}
-use mathlib.Core.Bool.{Bool, true, false}
+use mathlib.Core.Bool.{Bool, true, false, cond}
 use Rattle.std.specs.Orderings.{Decides}
 use Rattle.std.specs.declared.result.Result.{Result}
 use Rattle.std.specs.declared.result.Result.the-variants.{Ok, Err}
@@ -18,6 +18,10 @@ fit-if false e m = unfit e
 abbrev pub fitness-of : {F : Type 1} → Meaning F → Result (Unit {0}) Refusal
 fitness-of (unfit e) = Err e
 fitness-of (fit m) = Ok tt
+
+-- one check of a call: refused by e where the test fails, and else as what follows
+abbrev pub checked : Bool → Refusal → Result (Unit {0}) Refusal → Result (Unit {0}) Refusal
+checked b e next = cond b next (Err e)
 
 -- what a call answers that grants x: x, or the refusal that applies
 abbrev pub answered : {A : Type 0} → Result (Unit {0}) Refusal → A → Result A Refusal

@@ -1,6 +1,6 @@
 -- What a finder of points means, the laws of that meaning, and what each of its calls answers.
 use mathlib.Core.Path.{_≡_}
-use mathlib.Core.Bool.{Bool, true, cond, _&&_}
+use mathlib.Core.Bool.{Bool, true, _&&_}
 use mathlib.Core.List.{List}
 use Prim.Native.Nat.{ℕ, _≤_, _^_}
 use lib.Dec.{eqb, leb}
@@ -11,7 +11,7 @@ use Rattle.std.specs.declared.result.Result.the-variants.{Ok, Err}
 use Rattle.finders.specs.declared.refusals.Refusal.{Refusal}
 use Rattle.finders.specs.declared.refusals.Refusal.the-variants.{Length, Magnitude, Step}
 use Rattle.finders.specs.declared.points.PointShape.{PointShape}
-use Rattle.finders.specs.Meanings.{Meaning, fit, unfit, answered, placed, Tells}
+use Rattle.finders.specs.Meanings.{Meaning, fit, unfit, checked, answered, placed, Tells}
 use Rattle.finders.specs.Points.{distance, Near, within}
 
 -- a fit finder: the cells of its points, the largest size of a reading, the largest step, its set, and the point that it
@@ -87,11 +87,10 @@ Member (fit m) x = m .member x
 
 abbrev pub find-checked : (width reading-limit step-limit : ℕ) → List ℤ → ℕ → ℕ → Result (Unit {0}) Refusal
 find-checked n l t rs q k =
-    cond (eqb (length rs) n && eqb k n)
-    (cond (within l rs)
-    (cond (leb 1 q && leb q t) (Ok tt) (Err Step))
-    (Err Magnitude))
-    (Err Length)
+    checked (eqb (length rs) n && eqb k n) Length
+    (checked (within l rs) Magnitude
+    (checked (leb 1 q && leb q t) Step
+    (Ok tt)))
 
 abbrev pub find-grant : Meaning PointFit → List ℤ → ℕ → ℕ → Result (Unit {0}) Refusal
 find-grant (unfit e) rs q k = Err e
@@ -123,7 +122,7 @@ Outcome M rs q before after (Err e) = after ≡ before
 -- ---- what a test is refused for, first that applies
 
 abbrev pub test-checked : (width reading-limit : ℕ) → List ℤ → Result (Unit {0}) Refusal
-test-checked n l x = cond (eqb (length x) n) (cond (within l x) (Ok tt) (Err Magnitude)) (Err Length)
+test-checked n l x = checked (eqb (length x) n) Length (checked (within l x) Magnitude (Ok tt))
 
 abbrev pub test-grant : Meaning PointFit → List ℤ → Result (Unit {0}) Refusal
 test-grant (unfit e) x = Err e
