@@ -4,24 +4,17 @@ use mathlib.Core.Bool.{Bool, true, false}
 use mathlib.Core.List.{List, [], _∷_, _++_, append-assoc}
 use mathlib.Core.Logic.{_⊎_, inl, inr}
 use Rattle.std.specs.shelf.Lists.{All}
+use Rattle.std.proofs.shelf.Elements.{all-append, all-weaker}
 use Rattle.std.specs.declared.option.Option.{Option}
 use Rattle.std.specs.declared.option.Option.the-variants.{None, Some}
-use Rattle.finders.specs.Choice.{FirstBest, Chosen}
-
-all-append : {A : Type 0} (P : A → Type 0) (xs ys : List A) → All P xs → All P ys → All P (xs ++ ys)
-all-append P [] ys h k = k
-all-append P (x ∷ xs) ys h k = (h .0, all-append P xs ys (h .1) k)
-
-all-map : {A : Type 0} (P Q : A → Type 0) (xs : List A) → ((x : A) → P x → Q x) → All P xs → All Q xs
-all-map P Q [] f h = tt
-all-map P Q (x ∷ xs) f h = (f x (h .0), all-map P Q xs f (h .1))
+use Rattle.finders.specs.Choice.{IsFirstBest, Chosen}
 
 module _ {S : Type 0} (good : S → S → Type 0) (total : (a b : S) → good a b ⊎ good b a) (chain : (a b c : S) → good a b → good b c → good a c) where
   -- a is worse than b
   from-worse : (a b : S) → (good a b → ⊥) → good b a
   from-worse a b n = elim (total a b) [ inl h ↦ absurd (n h) | inr h ↦ h ]
 
-  offer-taken : {C : Type 0} (offers : List (C × S)) (b x : C × S) → (good (b .1) (x .1) → ⊥) → FirstBest good offers b → FirstBest good (offers ++ x ∷ []) x
+  offer-taken : {C : Type 0} (offers : List (C × S)) (b x : C × S) → (good (b .1) (x .1) → ⊥) → IsFirstBest good offers b → IsFirstBest good (offers ++ x ∷ []) x
   offer-taken {C} offers b x n f = record {
     earlier = offers;
     later = [];
@@ -34,13 +27,13 @@ module _ {S : Type 0} (good : S → S → Type 0) (total : (a b : S) → good a 
       Worse y = good (y .1) (x .1) → ⊥
 
       before : All Worse (f .earlier)
-      before = all-map (λ y. good (y .1) (b .1) → ⊥) Worse (f .earlier) (λ y w g. n (chain (b .1) (y .1) (x .1) (from-worse (y .1) (b .1) w) g)) (f .earlier-are-worse)
+      before = all-weaker (λ y. good (y .1) (b .1) → ⊥) Worse (λ y w g. n (chain (b .1) (y .1) (x .1) (from-worse (y .1) (b .1) w) g)) (f .earlier) (f .earlier-are-worse)
 
       after : All Worse (f .later)
-      after = all-map (λ y. good (b .1) (y .1)) Worse (f .later) (λ y w g. n (chain (b .1) (y .1) (x .1) w g)) (f .later-are-no-better)
+      after = all-weaker (λ y. good (b .1) (y .1)) Worse (λ y w g. n (chain (b .1) (y .1) (x .1) w g)) (f .later) (f .later-are-no-better)
 
   -- nothing that is held is at least as good: the new one is held
-  pub chosen-new : {C : Type 0} (offers : List (C × S)) (held : Option (C × S)) (x : C × S) → ((b : C × S) → held ≡ Some b → good (b .1) (x .1) → ⊥) → Chosen good offers held → FirstBest good (offers ++ x ∷ []) x
+  pub chosen-new : {C : Type 0} (offers : List (C × S)) (held : Option (C × S)) (x : C × S) → ((b : C × S) → held ≡ Some b → good (b .1) (x .1) → ⊥) → Chosen good offers held → IsFirstBest good (offers ++ x ∷ []) x
   chosen-new offers None x n e = record { earlier = []; later = []; stands = ap (λ v. v ++ x ∷ []) e; earlier-are-worse = tt; later-are-no-better = tt }
   chosen-new offers (Some b) x n f = offer-taken offers b x (n b refl) f
 
@@ -48,7 +41,7 @@ module _ {S : Type 0} (good : S → S → Type 0) (total : (a b : S) → good a 
 pub chosen-stays : {C S : Type 0} (good : S → S → Type 0) (offers : List (C × S)) (held : Option (C × S)) (b x : C × S) → held ≡ Some b → good (b .1) (x .1) → Chosen good offers held → Chosen good (offers ++ x ∷ []) held
 chosen-stays {C} {S} good offers held b x e g f = subst (Chosen good (offers ++ x ∷ [])) (sym e) (stays (subst (Chosen good offers) e f))
   where
-    stays : FirstBest good offers b → FirstBest good (offers ++ x ∷ []) b
+    stays : IsFirstBest good offers b → IsFirstBest good (offers ++ x ∷ []) b
     stays f = record {
       earlier = f .earlier;
       later = f .later ++ x ∷ [];

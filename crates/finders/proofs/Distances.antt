@@ -7,10 +7,10 @@ use native.Mathlib.Omega.{arith}
 use lib.IntN.{ℤ, pos}
 use lib.ListN.{length, getD, set}
 use Rattle.integers.specs.Nearest.{residue}
-use Rattle.finders.specs.Points.{square, distance, Near}
+use Rattle.finders.specs.Points.{square, distance, SmallResidues}
 
 -- a squared distance of residues that are small
-pub distance-small : (q : ℕ) (rs xs : List ℤ) → Near q rs xs → distance q rs xs ≤ length rs * 2 ^ 40
+pub distance-small : (q : ℕ) (rs xs : List ℤ) → SmallResidues q rs xs → distance q rs xs ≤ length rs * 2 ^ 40
 distance-small q [] xs h = omega arith
 distance-small q (r ∷ rs) [] h = omega arith
 distance-small q (r ∷ rs) (x ∷ xs) h = let b = h .0 in omega (arith, mul-le-mul b b, distance-small q rs xs (h .1))

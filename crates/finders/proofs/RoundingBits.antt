@@ -10,7 +10,7 @@ use Rattle.std.proofs.shelf.Signed.{toZ-ofZ, ints}
 use Rattle.integers.specs.Nearest.{nearest, residue}
 use Rattle.integers.proofs.Order.{natAbs-*ℤ-le, fits-natAbs}
 use Rattle.integers.proofs.Nearest.{nearest-is, nearest-near, nearest-best, nearest-fits, is-least}
-use Rattle.finders.specs.Rounding.{Divides, No-nearer, Towards-zero}
+use Rattle.finders.specs.Rounding.{Division, No-nearer, Towards-zero}
 use Rattle.finders.proofs.RoundingLaws.{divides, Rounds}
 
 -- a number that is written to 64 bits and read again
@@ -20,7 +20,7 @@ wide z = toZ w64 (ofZ w64 z)
 abbrev pub narrow : ℤ → ℤ
 narrow z = toZ w32 (ofZ w32 z)
 
-pub machine-divides : (q : ℕ) (r a b : ℤ) → 1 ≤ q → q < 2 ^ 32 → SFits w32 r → a ≡ narrow r → b ≡ pos q → Divides q r (wide (quotZ (wide a) (wide b))) (wide (remZ (wide a) (wide b)))
+pub machine-divides : (q : ℕ) (r a b : ℤ) → 1 ≤ q → q < 2 ^ 32 → SFits w32 r → a ≡ narrow r → b ≡ pos q → Division q r (wide (quotZ (wide a) (wide b))) (wide (remZ (wide a) (wide b)))
 machine-divides q r a b h k f e g =
     let ea : wide a ≡ r = omega (arith, ints) in
     let eb : wide b ≡ pos q = omega (arith, ints) in

@@ -8,10 +8,10 @@ use lib.Signed.{_≤ℤ_, _<ℤ_, quotZ, remZ}
 use borrow.Author.Differences.{ints}
 use Rattle.integers.specs.Nearest.{nearest, residue, Side, IsNearest}
 use Rattle.integers.proofs.Laws.{*ℤ-neg, *ℤ-+ℤ, *ℤ-1}
-use Rattle.integers.proofs.Nearest.{nearest-unique}
-use Rattle.finders.specs.Rounding.{Divides, other-way}
+use Rattle.integers.proofs.Nearest.{nearest-unique, nearest-near, nearest-next}
+use Rattle.finders.specs.Rounding.{Division, other-way, turned}
 
-pub divides : (q : ℕ) (r : ℤ) → 1 ≤ q → Divides q r (quotZ r (pos q)) (remZ r (pos q))
+pub divides : (q : ℕ) (r : ℤ) → 1 ≤ q → Division q r (quotZ r (pos q)) (remZ r (pos q))
 divides q (pos a) h =
     let d = div-add-mod a q in let m = mod-lt a {m = q} h in
     record { parts = omega (arith, ints); remainder-is-small = m; remainder-side = (λ k. omega (arith, ints), λ k. omega (arith, ints)); quotient-is-small = div-le-self a q }
@@ -33,7 +33,7 @@ pub record Rounds (q : ℕ) (r x s : ℤ) : Type 0 where
   pub number : x ≡ nearest q r
   pub leaves : s ≡ residue q r x
 
-module _ (q : ℕ) (r n m : ℤ) (some : 1 ≤ q) (d : Divides q r n m) where
+module _ (q : ℕ) (r n m : ℤ) (some : 1 ≤ q) (d : Division q r n m) where
   rounds : (x s : ℤ) → s ≡ residue q r x → 2 * natAbs s ≤ q → (2 * natAbs s ≡ q → Side r s) → Rounds q r x s
   rounds x s e h t = record { number = nearest-unique q r x some (record { near = rw (sym e) h; tie = rw (sym e) t }); leaves = e }
 
@@ -59,7 +59,7 @@ other-way-from q r (pos a) (pos zero) e h = rw (residue-up q r (pos a), sym e) (
 other-way-from q r (negsuc a) (pos zero) e h = rw (residue-down q r (negsuc a), sym e) (omega (arith, ints))
 
 -- what the other way leaves of a reading is the rest of the step
-pub other-way-left : (q : ℕ) (r x : ℤ) → natAbs (residue q r x) ≤ q → natAbs (residue q r (other-way (residue q r x) x)) ≡ q - natAbs (residue q r x)
+other-way-left : (q : ℕ) (r x : ℤ) → natAbs (residue q r x) ≤ q → natAbs (residue q r (other-way (residue q r x) x)) ≡ q - natAbs (residue q r x)
 other-way-left q r x h = other-way-from q r x (residue q r x) refl h
 
 -- it is a neighbour
@@ -68,3 +68,12 @@ other-way-apart (pos (suc n)) x = omega (arith, ints)
 other-way-apart (negsuc n) x = omega (arith, ints)
 other-way-apart (pos zero) (pos a) = omega (arith, ints)
 other-way-apart (pos zero) (negsuc a) = omega (arith, ints)
+
+pub turned-left : (q : ℕ) (r : ℤ) → 1 ≤ q → natAbs (residue q r (turned q r)) ≡ q - natAbs (residue q r (nearest q r))
+turned-left q r h = other-way-left q r (nearest q r) (omega (arith, nearest-near q r h))
+
+pub turned-rest : (q : ℕ) (r : ℤ) → 1 ≤ q → natAbs (residue q r (turned q r)) + natAbs (residue q r (nearest q r)) ≡ q
+turned-rest q r h = omega (arith, turned-left q r h, nearest-near q r h)
+
+pub turned-second : (q : ℕ) (r y : ℤ) → 1 ≤ q → (y ≡ nearest q r → ⊥) → natAbs (residue q r (turned q r)) ≤ natAbs (residue q r y)
+turned-second q r y h n = rw (turned-left q r h) (nearest-next q r y h n)

@@ -6,7 +6,7 @@ use Rattle.std.specs.declared.option.Option.{Option}
 use Rattle.std.specs.declared.option.Option.the-variants.{None, Some}
 
 -- b stands in the list; all before it are worse, and none after it is better
-pub record FirstBest {C S : Type 0} (at-least : S → S → Type 0) (offers : List (C × S)) (b : C × S) : Type 0 where
+pub record IsFirstBest {C S : Type 0} (at-least : S → S → Type 0) (offers : List (C × S)) (b : C × S) : Type 0 where
   pub earlier : List (C × S)
   pub later : List (C × S)
   pub stands : offers ≡ earlier ++ b ∷ later
@@ -16,4 +16,4 @@ pub record FirstBest {C S : Type 0} (at-least : S → S → Type 0) (offers : Li
 -- what is held after these offers: nothing where there was none
 abbrev pub Chosen : {C S : Type 0} → (S → S → Type 0) → List (C × S) → Option (C × S) → Type 0
 Chosen at-least offers None = offers ≡ []
-Chosen at-least offers (Some b) = FirstBest at-least offers b
+Chosen at-least offers (Some b) = IsFirstBest at-least offers b

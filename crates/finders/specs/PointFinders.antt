@@ -12,7 +12,7 @@ use Rattle.finders.specs.declared.refusals.Refusal.{Refusal}
 use Rattle.finders.specs.declared.refusals.Refusal.the-variants.{Length, Magnitude, Step}
 use Rattle.finders.specs.declared.points.PointShape.{PointShape}
 use Rattle.finders.specs.Meanings.{Meaning, fit, unfit, checked, answered, placed, Tells}
-use Rattle.finders.specs.Points.{distance, Near, within}
+use Rattle.finders.specs.Points.{distance, SmallResidues, within}
 
 -- a fit finder: the cells of its points, the largest size of a reading, the largest step, its set, and the point that it
 -- picks for readings at a step
@@ -40,7 +40,7 @@ pub record PointLaws (m : PointFit) : Type 0 where
   pub members-are-as-wide : (x : List ℤ) → m .member x → length x ≡ m .width
   pub pick-is-a-member : (rs : List ℤ) (q : ℕ) → Asked m rs q → m .member (m .pick rs q)
   pub no-member-is-nearer : (rs : List ℤ) (q : ℕ) → Asked m rs q → (x : List ℤ) → m .member x → distance q rs (m .pick rs q) ≤ distance q rs x
-  pub residues-are-small : (rs : List ℤ) (q : ℕ) → Asked m rs q → Near q rs (m .pick rs q)
+  pub residues-are-small : (rs : List ℤ) (q : ℕ) → Asked m rs q → SmallResidues q rs (m .pick rs q)
 
 abbrev pub Lawful : Meaning PointFit → Type 0
 Lawful (unfit e) = Unit {0}
@@ -92,27 +92,21 @@ find-checked n l t rs q k =
     (checked (leb 1 q && leb q t) Step
     (Ok tt)))
 
-abbrev pub find-grant : Meaning PointFit → List ℤ → ℕ → ℕ → Result (Unit {0}) Refusal
-find-grant (unfit e) rs q k = Err e
-find-grant (fit m) rs q k = find-checked (m .width) (m .reading-limit) (m .step-limit) rs q k
-
-abbrev pub picked : Meaning PointFit → List ℤ → ℕ → List ℤ → List ℤ
-picked (unfit e) rs q place = place
-picked (fit m) rs q place = m .pick rs q
-
 -- what `find` answers, and what it leaves in the place
 abbrev pub find-answer : Meaning PointFit → List ℤ → ℕ → List ℤ → Result ℕ Refusal
-find-answer M rs q place = answered (find-grant M rs q (length place)) (distance q rs (picked M rs q place))
+find-answer (unfit e) rs q place = Err e
+find-answer (fit m) rs q place = answered (find-checked (m .width) (m .reading-limit) (m .step-limit) rs q (length place)) (distance q rs (m .pick rs q))
 
 abbrev pub find-place : Meaning PointFit → List ℤ → ℕ → List ℤ → List ℤ
-find-place M rs q place = placed (find-grant M rs q (length place)) (picked M rs q place) place
+find-place (unfit e) rs q place = place
+find-place (fit m) rs q place = placed (find-checked (m .width) (m .reading-limit) (m .step-limit) rs q (length place)) (m .pick rs q) place
 
 -- x is a member at the squared distance d, and no member is nearer
 pub record IsNearestMember (M : Meaning PointFit) (rs : List ℤ) (q : ℕ) (x : List ℤ) (d : ℕ) : Type 0 where
   pub is-a-member : Member M x
   pub is-at-the-distance : distance q rs x ≡ d
   pub no-member-is-nearer : (y : List ℤ) → Member M y → d ≤ distance q rs y
-  pub has-small-residues : Near q rs x
+  pub has-small-residues : SmallResidues q rs x
 
 -- what a find comes to, in a word: the nearest member is written and its distance answered, or nothing is written
 abbrev pub Outcome : Meaning PointFit → List ℤ → ℕ → List ℤ → List ℤ → Result ℕ Refusal → Type 0
@@ -124,10 +118,7 @@ Outcome M rs q before after (Err e) = after ≡ before
 abbrev pub test-checked : (width reading-limit : ℕ) → List ℤ → Result (Unit {0}) Refusal
 test-checked n l x = checked (eqb (length x) n) Length (checked (within l x) Magnitude (Ok tt))
 
-abbrev pub test-grant : Meaning PointFit → List ℤ → Result (Unit {0}) Refusal
-test-grant (unfit e) x = Err e
-test-grant (fit m) x = test-checked (m .width) (m .reading-limit) x
-
 -- what `contains` answers
 abbrev pub Contains : Meaning PointFit → List ℤ → Result Bool Refusal → Type 0
-Contains M x r = Tells (test-grant M x) (Member M x) r
+Contains (unfit e) x r = r ≡ Err e
+Contains (fit m) x r = Tells (test-checked (m .width) (m .reading-limit) x) (m .member x) r

@@ -17,10 +17,10 @@ distance q (r ∷ rs) [] = 0
 distance q (r ∷ rs) (x ∷ xs) = square (residue q r x) + distance q rs xs
 
 -- each residue is at most 2^20 in size
-abbrev pub Near : ℕ → List ℤ → List ℤ → Type 0
-Near q [] xs = Unit {0}
-Near q (r ∷ rs) [] = Unit {0}
-Near q (r ∷ rs) (x ∷ xs) = (natAbs (residue q r x) ≤ 2 ^ 20) × Near q rs xs
+abbrev pub SmallResidues : ℕ → List ℤ → List ℤ → Type 0
+SmallResidues q [] xs = Unit {0}
+SmallResidues q (r ∷ rs) [] = Unit {0}
+SmallResidues q (r ∷ rs) (x ∷ xs) = (natAbs (residue q r x) ≤ 2 ^ 20) × SmallResidues q rs xs
 
 -- no number is larger in size than the limit
 abbrev pub within : ℕ → List ℤ → Bool

@@ -2,10 +2,10 @@
 use mathlib.Core.Path.{_≡_}
 use Prim.Native.Nat.{ℕ, zero, suc, _≤_, _<_}
 use lib.IntN.{ℤ, pos, negsuc, _+ℤ_, _*ℤ_, natAbs}
-use Rattle.integers.specs.Nearest.{residue, Side}
+use Rattle.integers.specs.Nearest.{nearest, residue, Side}
 
 -- n and m are the quotient of r by q, cut off towards zero, and the remainder, which is on r's side of zero
-pub record Divides (q : ℕ) (r n m : ℤ) : Type 0 where
+pub record Division (q : ℕ) (r n m : ℤ) : Type 0 where
   pub parts : r ≡ pos q *ℤ n +ℤ m
   pub remainder-is-small : natAbs m < q
   pub remainder-side : Side r m
@@ -26,3 +26,7 @@ other-way (pos (suc n)) x = x +ℤ pos 1
 other-way (negsuc n) x = x +ℤ negsuc 0
 other-way (pos zero) (pos a) = pos a +ℤ pos 1
 other-way (pos zero) (negsuc a) = negsuc a +ℤ negsuc 0
+
+-- from a reading's nearest number
+abbrev pub turned : ℕ → ℤ → ℤ
+turned q r = other-way (residue q r (nearest q r)) (nearest q r)

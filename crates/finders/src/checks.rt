@@ -17,11 +17,11 @@ pub fn all_within(numbers: &[i32], limit: u32) -> bool
 }
 
 impl PointShape {
-    // What a find of these readings at this step, into a place of so many numbers, is refused for.
-    pub fn check_find(self, readings: &[i32], step: u32, place: usize) -> Result<(), Refusal>
-        ensures is_the_first_refusal { λ r. ⌜ r ≡ find-checked (self .width) (self .«reading_limit») (self .«step_limit») (now (readings .entry)) step place ⌝ }
+    // What a find of these readings at this step, into a place of that length, is refused for.
+    pub fn check_find(self, readings: &[i32], step: u32, place_len: usize) -> Result<(), Refusal>
+        ensures is_the_first_refusal { λ r. ⌜ r ≡ find-checked (self .width) (self .«reading_limit») (self .«step_limit») (now (readings .entry)) step «place_len» ⌝ }
     {
-        if readings.len() != self.width || place != self.width {
+        if readings.len() != self.width || place_len != self.width {
             return Err(Refusal::Length);
         }
         if !all_within(readings, self.reading_limit) {

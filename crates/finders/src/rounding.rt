@@ -1,7 +1,7 @@
 ghost use mathlib.Core.Path.{_≡_};
 ghost use Prim.Native.Nat.{max, _≤_};
 ghost use Rattle.integers.specs.Nearest.{nearest, residue as residue-at};
-ghost use Rattle.finders.specs.Rounding.{Divides, No-nearer, Towards-zero, other-way};
+ghost use Rattle.finders.specs.Rounding.{Division, No-nearer, Towards-zero, other-way};
 
 // The whole number that a reading was rounded to, and what that leaves of the reading.
 #[derive(Clone, Copy)]
@@ -13,7 +13,7 @@ pub struct Rounded {
 // The quotient, cut off towards zero, and the remainder.
 fn divide(reading: i32, step: u32) -> (i64, i64)
     requires { ⌜ 1 ≤ step ⌝ }
-    ensures { λ r. ⌜ Divides step reading (r .0) (r .1) ⌝ }
+    ensures { λ r. ⌜ Division step reading (r .0) (r .1) ⌝ }
 {
     let reading = i64::from(reading);
     let step = i64::from(step);
@@ -56,7 +56,7 @@ pub fn residue_of(reading: i32, step: u32, number: i32) -> i64
 }
 
 impl Rounded {
-    // The number on the other side of the reading: the second nearest, or for residue zero the next away from zero.
+    // The number on the other side of the reading; for residue zero the next away from zero, and from 0 it is 1.
     pub fn other_way(self) -> i64
         ensures is_the_other_way { λ r. ⌜ r ≡ other-way (self .residue) (self .number) ⌝ }
     {

@@ -1,4 +1,4 @@
--- `nearest r q` is the whole number nearest to r / q, and of two such numbers the one nearer to zero.
+-- `nearest q r` is the whole number nearest to r / q, and of two such numbers the one nearer to zero.
 use Prim.Native.Nat.{ℕ, zero, suc, _+_, _-_, _*_, _/_, _%_, _≤_, _<_}
 use native.Mathlib.Omega.{arith}
 use mir.Syntax.{Width}

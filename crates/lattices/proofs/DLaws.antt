@@ -8,14 +8,12 @@ use lib.Dec.{eqb, leb}
 use lib.IntN.{ℤ}
 use lib.ListN.{length}
 use Rattle.std.proofs.shelf.Tests.{leb-true, eqb-true, eqb-false, and-parts, cond-both}
-use Rattle.finders.specs.declared.refusals.Refusal.the-variants.{Width}
-use Rattle.finders.specs.Points.{distance, Near}
-use Rattle.finders.specs.PointFinders.{PointLaws, Lawful}
-use Rattle.finders.proofs.Fitness.{fit-if-lawful}
-use Rattle.lattices.specs.Widths.{in-range}
+use Rattle.finders.specs.Points.{distance, SmallResidues}
+use Rattle.finders.specs.PointFinders.{Lawful}
 use Rattle.lattices.specs.LatticeZ.{rounded}
-use Rattle.lattices.specs.LatticeD.{parity, repaired, d-pick, d-fit, lattice-d}
+use Rattle.lattices.specs.LatticeD.{parity, repaired, d-pick, lattice-d}
 use Rattle.lattices.proofs.RoundedCells.{length-rounded, near-rounded, rounded-is-nearest}
+use Rattle.lattices.proofs.WidestLaws.{widest-lawful}
 use Rattle.lattices.proofs.Repair.{repair-costs, other-parity-costs, repair-turns, near-repaired, length-repaired}
 
 -- what holds of the rounded point where its sum is even, and of the repaired one where not, holds of the pick
@@ -30,21 +28,9 @@ none-is-nearer q rs y p k l e = by-parity q rs (λ x. distance q rs x ≤ distan
     (λ _. rounded-is-nearest q rs y p l)
     (λ o. omega (arith, repair-costs q rs p k, other-parity-costs q rs y p l (λ f. o (sym f ∙ e))))
 
-d-laws : (n : ℕ) → 1 ≤ n → n ≤ 32 → PointLaws (d-fit n)
-d-laws n h k = record {
-  some-cell = h;
-  few-cells = k;
-  some-reading = omega arith;
-  small-readings = omega arith;
-  some-step = omega arith;
-  small-steps = omega arith;
-  members-are-as-wide = λ x m. m .0;
-  pick-is-a-member = λ rs q a. (by-parity q rs (λ x. length x ≡ n) (λ _. length-rounded q rs ∙ a .as-wide) (λ _. length-repaired q rs ∙ a .as-wide), pick-is-even q rs (omega (arith, a .as-wide)));
-  no-member-is-nearer = λ rs q a y m. none-is-nearer q rs y (a .step-from-one) (omega (arith, a .as-wide)) (m .0 ∙ sym (a .as-wide)) (m .1);
-  residues-are-small = λ rs q a. by-parity q rs (Near q rs)
-      (λ _. near-rounded q rs (a .step-from-one) (a .step-within))
-      (λ _. near-repaired q rs (a .step-from-one) (a .step-within) (omega (arith, a .as-wide)));
-}
-
 pub d-lawful : (n : ℕ) → Lawful (lattice-d n)
-d-lawful n = fit-if-lawful (in-range n) Width (d-fit n) (λ e. let p = and-parts (leb 1 n) (leb n 32) e in d-laws n (leb-true 1 n (p .0)) (leb-true n 32 (p .1)))
+d-lawful n = widest-lawful n (λ x. (length x ≡ n) × (parity x ≡ 0)) d-pick
+    (λ x m. m .0)
+    (λ rs q some a. (by-parity q rs (λ x. length x ≡ n) (λ _. length-rounded q rs ∙ a .as-wide) (λ _. length-repaired q rs ∙ a .as-wide), pick-is-even q rs some))
+    (λ rs q some a y m. none-is-nearer q rs y (a .step-from-one) some (m .0 ∙ sym (a .as-wide)) (m .1))
+    (λ rs q some a. by-parity q rs (SmallResidues q rs) (λ _. near-rounded q rs (a .step-from-one) (a .step-within)) (λ _. near-repaired q rs (a .step-from-one) (a .step-within) some))

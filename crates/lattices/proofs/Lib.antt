@@ -1,4 +1,5 @@
 pub mod RoundedCells
+pub mod WidestLaws
 pub mod ZLaws
 pub mod Parity
 pub mod Repair

@@ -12,14 +12,14 @@ use Rattle.std.proofs.shelf.Lists.{take-more, take-more-set, take-all, length-t
 use Rattle.std.proofs.shelf.Signed.{toZ-ofZ, ints}
 use Rattle.integers.specs.Nearest.{nearest, residue}
 use Rattle.integers.proofs.Nearest.{nearest-near, nearest-best}
-use Rattle.finders.specs.Points.{distance, Near}
+use Rattle.finders.specs.Points.{distance, SmallResidues}
 use Rattle.finders.proofs.Distances.{distance-small, distance-push}
 use Rattle.lattices.specs.LatticeZ.{rounded}
 
 pub length-rounded : (q : ℕ) (rs : List ℤ) → length (rounded q rs) ≡ length rs
 length-rounded q rs = length-map rs (nearest q)
 
-pub near-rounded : (q : ℕ) (rs : List ℤ) → 1 ≤ q → q ≤ 2 ^ 20 → Near q rs (rounded q rs)
+pub near-rounded : (q : ℕ) (rs : List ℤ) → 1 ≤ q → q ≤ 2 ^ 20 → SmallResidues q rs (rounded q rs)
 near-rounded q [] h k = tt
 near-rounded q (r ∷ rs) h k = (omega (arith, nearest-near q r h), near-rounded q rs h k)
 

@@ -14,7 +14,7 @@ use Rattle.std.proofs.shelf.Lists.{length-map, length-take-le, map-more}
 use Rattle.std.proofs.shelf.Tests.{leb-true, leb-false, le-leb, lt-leb, cases-lt}
 use borrow.Author.Differences.{ints}
 use Rattle.finders.specs.declared.choice.Greatest.{Greatest}
-use Rattle.finders.specs.Choice.{FirstBest}
+use Rattle.finders.specs.Choice.{IsFirstBest}
 use Rattle.lattices.specs.LatticeD.{largest, first-largest, IsFirstLargest}
 
 -- ---- what makes `first-largest` right
@@ -99,7 +99,7 @@ some-offered [] [] later b e = absurd (no-offer e)
 some-offered [] (x ∷ es) later b e = absurd (no-offer e)
 some-offered (n ∷ ns) es later b e = omega arith
 
-pub chosen-is-first-largest : (ns : List ℕ) (i : ℕ) (s : Greatest) → FirstBest at-least (offered 0 ns) (i, s) → (i ≡ first-largest ns) × (i < length ns)
+pub chosen-is-first-largest : (ns : List ℕ) (i : ℕ) (s : Greatest) → IsFirstBest at-least (offered 0 ns) (i, s) → (i ≡ first-largest ns) × (i < length ns)
 chosen-is-first-largest ns i s f =
     let e = first-best 0 ns (f .earlier) (f .later) (i, s) (f .stands) (f .earlier-are-worse) (f .later-are-no-better) in
     let a = stands ns (some-offered ns (f .earlier) (f .later) (i, s) (f .stands)) .at in

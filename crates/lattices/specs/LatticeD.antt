@@ -9,12 +9,11 @@ use lib.ListN.{length, getD, set, take}
 use Rattle.std.specs.shelf.Lists.{All}
 use Rattle.integers.specs.Nearest.{nearest, residue}
 use Rattle.integers.specs.Sums.{sumℤ}
-use Rattle.finders.specs.declared.refusals.Refusal.the-variants.{Width}
-use Rattle.finders.specs.Meanings.{Meaning, fit-if}
+use Rattle.finders.specs.Meanings.{Meaning}
 use Rattle.finders.specs.PointFinders.{PointFit}
-use Rattle.finders.specs.Rounding.{other-way}
+use Rattle.finders.specs.Rounding.{turned}
 use Rattle.lattices.specs.LatticeZ.{rounded}
-use Rattle.lattices.specs.Widths.{in-range}
+use Rattle.lattices.specs.Widest.{widest}
 
 -- 0 for an even sum, 1 for an odd one
 abbrev pub parity : List ℤ → ℕ
@@ -43,10 +42,6 @@ left-over q r = natAbs (residue q r (nearest q r))
 abbrev pub worst-cell : ℕ → List ℤ → ℕ
 worst-cell q rs = first-largest (map (left-over q) rs)
 
--- the other way from a reading's nearest number
-abbrev pub turned : ℕ → ℤ → ℤ
-turned q r = other-way (residue q r (nearest q r)) (nearest q r)
-
 -- the rounded point, where the worst cell goes the other way
 abbrev pub repaired : ℕ → List ℤ → List ℤ
 repaired q rs = set (rounded q rs) (worst-cell q rs) (turned q (getD rs (worst-cell q rs) (pos 0)))
@@ -54,14 +49,5 @@ repaired q rs = set (rounded q rs) (worst-cell q rs) (turned q (getD rs (worst-c
 abbrev pub d-pick : List ℤ → ℕ → List ℤ
 d-pick rs q = cond (eqb (parity (rounded q rs)) 0) (rounded q rs) (repaired q rs)
 
-abbrev pub d-fit : ℕ → PointFit
-d-fit n = record {
-  width = n;
-  reading-limit = 2 ^ 30;
-  step-limit = 2 ^ 20;
-  member = λ x. (length x ≡ n) × (parity x ≡ 0);
-  pick = d-pick;
-}
-
 abbrev pub lattice-d : ℕ → Meaning PointFit
-lattice-d n = fit-if (in-range n) Width (d-fit n)
+lattice-d n = widest n (λ x. (length x ≡ n) × (parity x ≡ 0)) d-pick

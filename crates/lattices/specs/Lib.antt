@@ -1,3 +1,3 @@
-pub mod Widths
+pub mod Widest
 pub mod LatticeZ
 pub mod LatticeD

@@ -3,7 +3,7 @@ ghost use Prim.Native.Nat.{ℕ, _≤_, _^_};
 ghost use lib.ListN.{length};
 ghost use Rattle.finders.specs.Points.{distance};
 ghost use Rattle.lattices.specs.LatticeZ.{rounded};
-ghost use Rattle.lattices.specs.Widths.{widest-shape};
+ghost use Rattle.lattices.specs.Widest.{widest-shape};
 use finders::points::MOST_CELLS;
 use finders::points::MOST_READING;
 use finders::points::MOST_STEP;

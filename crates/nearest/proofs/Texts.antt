@@ -24,14 +24,14 @@ use Rattle.finders.specs.declared.refusals.Refusal.{Refusal}
 use Rattle.finders.specs.declared.refusals.Refusal.the-variants.{Kind}
 use Rattle.finders.specs.Meanings.{Meaning, fit, unfit, answered, placed}
 use Rattle.finders.specs.Points.{distance}
-use Rattle.finders.specs.PointFinders.{PointFit, find-grant, find-answer, find-place, find-checked}
+use Rattle.finders.specs.PointFinders.{PointFit, find-answer, find-place, find-checked}
 use Rattle.finders.proofs.Fitness.{not-err}
 use Rattle.nearest.specs.declared.answers.Answer.{Answer}
 use Rattle.nearest.specs.declared.answers.Answer.the-variants.{Nearest, Refused, Unreadable}
 use Rattle.nearest.specs.declared.tasks.Lattice.{Lattice}
 use Rattle.nearest.specs.Tasks.{named, meaning-of}
 use Rattle.nearest.specs.Answers.{spaced}
-use Rattle.nearest.specs.Lines.{First, Words, Writes, WritesStep, Readings, Granted, Finds, Asked, Told, Answers}
+use Rattle.nearest.specs.Lines.{First, Words, Writes, WritesStep, Readings, Shows, Finds, TaskAnswer, Told, Answers}
 
 pub not-same : (v w : List ℕ) → (v ≡ w → ⊥) → same-text v w ≡ false
 not-same v w n = elim (cases-bool (same-text v w)) [ inl e ↦ absurd (n (bytes-decides v w .0 e)) | inr e ↦ e ]
@@ -93,24 +93,27 @@ module _ (words : List (RefT (List ℕ))) (d : RefT (List ℕ)) (i : ℕ) (here 
 
 -- ---- what is found
 
-module _ (rs : List ℤ) (q : ℕ) (place : List ℤ) where
-  pub found-nearest : (M : Meaning PointFit) (after : List ℤ) (v : Vec ℤ Global) (d : ℕ) → length place ≡ length rs → Ok d ≡ find-answer M rs q place → after ≡ find-place M rs q place → vec-items v ≡ after → Finds M rs q (Nearest v d)
-  found-nearest (unfit f) after v d l a p e = absurd (not-err a)
-  found-nearest (fit m) after v d l a p e =
-      subst (λ (k : ℕ). Granted (find-checked (m .width) (m .reading-limit) (m .step-limit) rs q k) (m .pick rs q) (distance q rs (m .pick rs q)) (Nearest v d)) l (go (find-checked (m .width) (m .reading-limit) (m .step-limit) rs q (length place)) (distance q rs (m .pick rs q)) (m .pick rs q) a p)
-    where
-      go : (g : Result (Unit {0}) Refusal) (n : ℕ) (xs : List ℤ) → Ok d ≡ answered g n → after ≡ placed g xs place → Granted g xs n (Nearest v d)
-      go (Ok u) n xs a p = (e ∙ p, cc)
-      go (Err f) n xs a p = absurd (not-err a)
+-- a find into a place of as many numbers as there are readings; g is its check
+shows-nearest : (g : Result (Unit {0}) Refusal) (n d : ℕ) (xs before other after : List ℤ) (v : Vec ℤ Global) → Ok d ≡ answered g n → after ≡ placed g xs before → vec-items v ≡ after → Shows (answered g n) (placed g xs other) (Nearest v d)
+shows-nearest (Ok _) n d xs before other after v a p e = (e ∙ p, cc)
+shows-nearest (Err f) n d xs before other after v a p e = absurd (not-err a)
 
-  pub found-refused : (M : Meaning PointFit) (e : Refusal) → length place ≡ length rs → Err e ≡ find-answer M rs q place → Finds M rs q (Refused e)
-  found-refused (unfit f) e l a = cc
-  found-refused (fit m) e l a =
-      subst (λ (k : ℕ). Granted (find-checked (m .width) (m .reading-limit) (m .step-limit) rs q k) (m .pick rs q) (distance q rs (m .pick rs q)) (Refused e)) l (go (find-checked (m .width) (m .reading-limit) (m .step-limit) rs q (length place)) (distance q rs (m .pick rs q)) (m .pick rs q) a)
-    where
-      go : (g : Result (Unit {0}) Refusal) (n : ℕ) (xs : List ℤ) → Err e ≡ answered g n → Granted g xs n (Refused e)
-      go (Ok u) n xs a = absurd (not-err (sym a))
-      go (Err f) n xs a = cc
+shows-refused : (g : Result (Unit {0}) Refusal) (n : ℕ) (xs other : List ℤ) (e : Refusal) → Err e ≡ answered g n → Shows (answered g n) (placed g xs other) (Refused e)
+shows-refused (Ok _) n xs other e a = absurd (not-err (sym a))
+shows-refused (Err f) n xs other e a = cc
+
+module _ (rs : List ℤ) (q : ℕ) (place : List ℤ) (room : length place ≡ length rs) where
+  pub found-nearest : (M : Meaning PointFit) (after : List ℤ) (v : Vec ℤ Global) (d : ℕ) → Ok d ≡ find-answer M rs q place → after ≡ find-place M rs q place → vec-items v ≡ after → Finds M rs q (Nearest v d)
+  found-nearest (unfit f) after v d a p e = absurd (not-err a)
+  found-nearest (fit m) after v d a p e =
+      let check : ℕ → Result (Unit {0}) Refusal = find-checked (m .width) (m .reading-limit) (m .step-limit) rs q in
+      subst (λ (k : ℕ). Shows (answered (check k) (distance q rs (m .pick rs q))) (placed (check k) (m .pick rs q) rs) (Nearest v d)) room (shows-nearest (check (length place)) _ d (m .pick rs q) place rs after v a p e)
+
+  pub found-refused : (M : Meaning PointFit) (e : Refusal) → Err e ≡ find-answer M rs q place → Finds M rs q (Refused e)
+  found-refused (unfit f) e a = cc
+  found-refused (fit m) e a =
+      let check : ℕ → Result (Unit {0}) Refusal = find-checked (m .width) (m .reading-limit) (m .step-limit) rs q in
+      subst (λ (k : ℕ). Shows (answered (check k) (distance q rs (m .pick rs q))) (placed (check k) (m .pick rs q) rs) (Refused e)) room (shows-refused (check (length place)) _ (m .pick rs q) rs e a)
 
 -- ---- the first word and the others
 
@@ -126,7 +129,7 @@ pub told-none : (words : List (RefT (List ℕ))) (l : Lattice) → length words 
 told-none [] l h = refl
 told-none (w ∷ words) l h = absurd (omega arith)
 
-pub told-some : (words : List (RefT (List ℕ))) (d : RefT (List ℕ)) (l : Lattice) (a : Answer) → 1 ≤ length words → Asked l (now (getD words 0 d)) (map (λ w. now w) (take (length words - 1) (drop 1 words))) a → Told (Some l) (map (λ w. now w) words) a
+pub told-some : (words : List (RefT (List ℕ))) (d : RefT (List ℕ)) (l : Lattice) (a : Answer) → 1 ≤ length words → TaskAnswer l (now (getD words 0 d)) (map (λ w. now w) (take (length words - 1) (drop 1 words))) a → Told (Some l) (map (λ w. now w) words) a
 told-some [] d l a h t = absurd (omega arith)
 told-some (w ∷ words) d l a h t = rw (take-rest (w ∷ words) 1) at t
 
@@ -144,7 +147,7 @@ readings-same (w ∷ ws) [] ys h k = absurd h
 readings-same (w ∷ ws) (x ∷ xs) [] h k = absurd k
 readings-same (w ∷ ws) (x ∷ xs) (y ∷ ys) h k = ap₂ (λ (u : ℤ) (v : List ℤ). u ∷ v) (h .0 .is ∙ sym (k .0 .is)) (readings-same ws xs ys (h .1) (k .1))
 
-pub asked-found : (l : Lattice) (w : List ℕ) (ws : List (List ℕ)) (q : ℕ) (rs : List ℤ) (a : Answer) → WritesStep w q → Readings ws rs → Finds (meaning-of l (length rs)) rs q a → Asked l w ws a
+pub asked-found : (l : Lattice) (w : List ℕ) (ws : List (List ℕ)) (q : ℕ) (rs : List ℤ) (a : Answer) → WritesStep w q → Readings ws rs → Finds (meaning-of l (length rs)) rs q a → TaskAnswer l w ws a
 asked-found l w ws q rs a s r f = record {
   no-step = λ n. absurd (n q s);
   no-readings = λ n. absurd (n rs r);

@@ -14,8 +14,7 @@ use Rattle.std.specs.declared.result.Result.the-variants.{Ok, Err}
 use Rattle.finders.specs.declared.refusals.Refusal.{Refusal}
 use Rattle.finders.specs.declared.refusals.Refusal.the-variants.{Kind}
 use Rattle.finders.specs.Meanings.{Meaning}
-use Rattle.finders.specs.Points.{distance}
-use Rattle.finders.specs.PointFinders.{PointFit, find-grant, picked}
+use Rattle.finders.specs.PointFinders.{PointFit, find-answer, find-place}
 use Rattle.nearest.specs.declared.answers.Answer.{Answer}
 use Rattle.nearest.specs.declared.answers.Answer.the-variants.{Nearest, Refused, Unreadable}
 use Rattle.nearest.specs.declared.tasks.Lattice.{Lattice}
@@ -57,21 +56,21 @@ pub record WritesStep (w : List ℕ) (q : ℕ) : Type 0 where
   pub is : q ≡ value 10 (afterPlus w)
 
 -- an answer is this point, with this squared distance
-abbrev pub Shows : Answer → List ℤ → ℕ → Type 0
-Shows (Nearest point d) xs n = (vec-items point ≡ xs) × (d ≡ n)
-Shows (Refused e) xs n = ⊥
-Shows Unreadable xs n = ⊥
+abbrev pub IsPoint : Answer → List ℤ → ℕ → Type 0
+IsPoint (Nearest point d) xs n = (vec-items point ≡ xs) × (d ≡ n)
+IsPoint (Refused e) xs n = ⊥
+IsPoint Unreadable xs n = ⊥
 
-abbrev pub Granted : Result (Unit {0}) Refusal → List ℤ → ℕ → Answer → Type 0
-Granted (Ok _) xs n a = Shows a xs n
-Granted (Err e) xs n a = a ≡ Refused e
+abbrev pub Shows : Result ℕ Refusal → List ℤ → Answer → Type 0
+Shows (Ok d) xs a = IsPoint a xs d
+Shows (Err e) xs a = a ≡ Refused e
 
--- the answer to readings at a step: the pick, or the refusal of `find` into a place of as many numbers
+-- the answer to readings at a step, by what `find` answers and writes into a place of as many numbers
 abbrev pub Finds : Meaning PointFit → List ℤ → ℕ → Answer → Type 0
-Finds M rs q a = Granted (find-grant M rs q (length rs)) (picked M rs q []) (distance q rs (picked M rs q [])) a
+Finds M rs q a = Shows (find-answer M rs q rs) (find-place M rs q rs) a
 
 -- the answer to a step and readings that are written; the first two read no number from some word
-pub record Asked (l : Lattice) (step : List ℕ) (ws : List (List ℕ)) (a : Answer) : Type 0 where
+pub record TaskAnswer (l : Lattice) (step : List ℕ) (ws : List (List ℕ)) (a : Answer) : Type 0 where
   pub no-step : ((q : ℕ) → WritesStep step q → ⊥) → a ≡ Unreadable
   pub no-readings : ((rs : List ℤ) → Readings ws rs → ⊥) → a ≡ Unreadable
   pub found : (q : ℕ) (rs : List ℤ) → WritesStep step q → Readings ws rs → Finds (meaning-of l (length rs)) rs q a
@@ -79,7 +78,7 @@ pub record Asked (l : Lattice) (step : List ℕ) (ws : List (List ℕ)) (a : Ans
 abbrev pub Told : Option Lattice → List (List ℕ) → Answer → Type 0
 Told None ws a = a ≡ Refused Kind
 Told (Some l) [] a = a ≡ Unreadable
-Told (Some l) (step ∷ ws) a = Asked l step ws a
+Told (Some l) (step ∷ ws) a = TaskAnswer l step ws a
 
 -- the answer to the words of a line: the name of a set, a step, readings
 abbrev pub Answers : List (List ℕ) → Answer → Type 0

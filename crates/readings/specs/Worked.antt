@@ -8,7 +8,8 @@ use Rattle.std.specs.shelf.Lists.{All}
 use Rattle.std.specs.declared.result.Result.the-variants.{Ok}
 use Rattle.integers.specs.Nearest.{nearest}
 use Rattle.finders.specs.PointFinders.{find-answer, find-place}
-use Rattle.lattices.specs.LatticeD.{turned, lattice-d}
+use Rattle.finders.specs.Rounding.{turned}
+use Rattle.lattices.specs.LatticeD.{lattice-d}
 
 pub data Worked : Type 0 where
   -- a reading and the number that it is rounded to

@@ -13,7 +13,8 @@ use Rattle.finders.specs.Points.{distance}
 use Rattle.finders.specs.Rounding.{other-way}
 use Rattle.finders.proofs.Distances.{distance-small}
 use Rattle.lattices.specs.LatticeZ.{rounded}
-use Rattle.lattices.specs.LatticeD.{left-over, turned}
+use Rattle.finders.specs.Rounding.{turned}
+use Rattle.lattices.specs.LatticeD.{left-over}
 use Rattle.lattices.proofs.RoundedCells.{length-rounded, round-told, near-rounded}
 use Rattle.lattices.proofs.Repair.{left-over-small, turned-distance, turned-small, cast-turned, repaired-as}
 use Rattle.lattices.proofs.lattice_d.repair.Needs as need
