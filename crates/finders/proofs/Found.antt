@@ -13,7 +13,7 @@ use Rattle.finders.specs.declared.refusals.Refusal.{Refusal}
 use Rattle.finders.specs.declared.refusals.Refusal.the-variants.{Length, Magnitude, Step}
 use Rattle.finders.specs.Meanings.{Meaning, fit, unfit, checked, answered, placed}
 use Rattle.finders.specs.Points.{distance, within}
-use Rattle.finders.specs.PointFinders.{PointFit, PointLaws, Lawful, Asked, IsNearestMember, Outcome, Same, find-checked, find-answer, find-place}
+use Rattle.finders.specs.PointFinders.{PointFit, PointLaws, Lawful, Asked, Outcome, Same, find-checked, find-answer, find-place}
 use Rattle.finders.proofs.Fitness.{not-err}
 
 -- a test that a grant has passed

@@ -1,12 +1,12 @@
 -- Rounding by a quotient that is cut off towards zero and then corrected by one, and the other way.
 use mathlib.Core.Path.{_≡_, refl, sym}
-use Prim.Native.Nat.{ℕ, zero, suc, _+_, _-_, _*_, _/_, _%_, _≤_, _<_}
+use Prim.Native.Nat.{ℕ, zero, suc, _+_, _-_, _*_, _/_, _≤_, _<_}
 use native.Mathlib.Nat.{div-add-mod, mod-lt, div-le-self}
 use native.Mathlib.Omega.{arith}
 use lib.IntN.{ℤ, pos, negsuc, negℤ, _+ℤ_, _-ℤ_, _*ℤ_, natAbs}
 use lib.Signed.{_≤ℤ_, _<ℤ_, quotZ, remZ}
 use borrow.Author.Differences.{ints}
-use Rattle.integers.specs.Nearest.{nearest, residue, Side, IsNearest}
+use Rattle.integers.specs.Nearest.{nearest, residue, Side}
 use Rattle.integers.proofs.Laws.{*ℤ-neg, *ℤ-+ℤ, *ℤ-1}
 use Rattle.integers.proofs.Nearest.{nearest-unique, nearest-near, nearest-next}
 use Rattle.finders.specs.Rounding.{Division, other-way, turned}

@@ -1,6 +1,11 @@
 // Tests of the public calls of the lattices, run on examples.
 #[cfg(test)]
 mod tests {
+    use finders::choice::FirstBest;
+    use finders::choice::Greatest;
+    use finders::choice::GreatestScore;
+    use finders::choice::Least;
+    use finders::choice::LeastScore;
     use finders::points::PointFinder;
     use finders::points::PointTester;
     use finders::refusals::Refusal;
@@ -96,5 +101,22 @@ mod tests {
             LatticeZ::new(1).contains(&[-1073741825]),
             Err(Refusal::Magnitude),
         )
+    }
+
+    #[test]
+    fn the_first_of_the_best_is_held() -> Result<(), Fail> {
+        let mut least = FirstBest::none();
+        let mut greatest = FirstBest::none();
+        for (i, score) in [0u64, 3, 0, 3].iter().enumerate() {
+            least.offer(i, Least(*score));
+            greatest.offer(i, Greatest(*score as i64));
+        }
+        let Some((first_least, Least(0))) = least.held else {
+            return Err(Fail::new("the least is not held"));
+        };
+        let Some((first_greatest, Greatest(3))) = greatest.held else {
+            return Err(Fail::new("the greatest is not held"));
+        };
+        check_eq((first_least, first_greatest), (0, 1))
     }
 }

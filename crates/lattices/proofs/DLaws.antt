@@ -1,13 +1,12 @@
 -- The laws of D: no point of even sum is nearer than the rounded point, or than the repaired one where the rounded sum is odd.
-use mathlib.Core.Path.{_≡_, refl, sym, ap, _∙_}
-use mathlib.Core.Bool.{Bool, true, false, cond, _&&_}
+use mathlib.Core.Path.{_≡_, sym, _∙_}
 use mathlib.Core.List.{List}
-use Prim.Native.Nat.{ℕ, _≤_, _^_}
+use Prim.Native.Nat.{ℕ, _≤_}
 use native.Mathlib.Omega.{arith}
-use lib.Dec.{eqb, leb}
+use lib.Dec.{eqb}
 use lib.IntN.{ℤ}
 use lib.ListN.{length}
-use Rattle.std.proofs.shelf.Tests.{leb-true, eqb-true, eqb-false, and-parts, cond-both}
+use Rattle.std.proofs.shelf.Tests.{eqb-true, eqb-false, cond-both}
 use Rattle.finders.specs.Points.{distance, SmallResidues}
 use Rattle.finders.specs.PointFinders.{Lawful}
 use Rattle.lattices.specs.LatticeZ.{rounded}

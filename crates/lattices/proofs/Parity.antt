@@ -1,18 +1,17 @@
 -- The parity of a sum: a cell more in front, and one at the end, as a loop has it.
-use mathlib.Core.Path.{_≡_, refl, sym, ap, _∙_}
-use mathlib.Core.Bool.{Bool, not}
+use mathlib.Core.Path.{_≡_, ap, _∙_}
+use mathlib.Core.Bool.{not}
 use mathlib.Core.List.{List, [], _∷_, _++_}
 use Prim.Native.Nat.{ℕ, zero, suc, _+_, _%_, _<_}
 use native.Mathlib.Omega.{arith}
 use mir.Syntax.{w32}
 use mir.Val.{SFits, toZ, ofZ}
 use lib.Dec.{eqb}
-use lib.IntN.{ℤ, pos, negsuc, _+ℤ_, natAbs}
+use lib.IntN.{ℤ, pos, _+ℤ_, natAbs}
 use lib.ListN.{length, take, getD}
 use lib.Signed.{remZ}
 use Rattle.std.proofs.shelf.Lists.{take-more}
 use Rattle.std.proofs.shelf.Signed.{toZ-ofZ, ints}
-use Rattle.integers.specs.Sums.{sumℤ}
 use Rattle.integers.proofs.Sums.{sumℤ-++}
 use Rattle.lattices.specs.LatticeD.{parity}
 

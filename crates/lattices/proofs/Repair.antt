@@ -1,14 +1,14 @@
 -- The repaired point: the worst-size cell goes the other way.
 use mathlib.Core.Path.{_≡_, refl, sym, ap, ap₂, _∙_}
-use mathlib.Core.Bool.{Bool, true, false, cond}
+use mathlib.Core.Bool.{Bool, true, false}
 use mathlib.Core.List.{List, [], _∷_, map}
-use Prim.Native.Nat.{ℕ, zero, suc, max, _+_, _-_, _*_, _%_, _≤_, _<_, _^_}
+use Prim.Native.Nat.{ℕ, max, _+_, _-_, _*_, _≤_, _<_, _^_}
 use native.Mathlib.Nat.{mul-le-mul, mul-le-mul-left, add-mul, mul-add, mul-comm}
 use native.Mathlib.Omega.{arith}
 use mir.Syntax.{w32, w64}
 use mir.Val.{SFits, toZ, ofZ}
 use lib.Dec.{leb}
-use lib.IntN.{ℤ, pos, _+ℤ_, _-ℤ_, natAbs, ℤ-discrete}
+use lib.IntN.{ℤ, pos, natAbs, ℤ-discrete}
 use lib.ListN.{length, getD, set, length-set}
 use Rattle.std.proofs.shelf.Tests.{leb-true, leb-false}
 use Rattle.std.proofs.shelf.Lists.{getD-map}

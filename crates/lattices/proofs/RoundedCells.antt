@@ -1,14 +1,14 @@
 -- The rounded point: its length, its residues, its distance, and the loop that makes it.
-use mathlib.Core.Path.{_≡_, refl, sym, ap, ap₂, _∙_}
-use mathlib.Core.List.{List, [], _∷_, _++_, map}
-use Prim.Native.Nat.{ℕ, zero, suc, max, _+_, _*_, _≤_, _<_, _^_}
+use mathlib.Core.Path.{_≡_, sym, ap, ap₂, _∙_}
+use mathlib.Core.List.{List, [], _∷_, _++_}
+use Prim.Native.Nat.{ℕ, max, _+_, _*_, _≤_, _<_, _^_}
 use native.Mathlib.Nat.{mul-le-mul}
 use native.Mathlib.Omega.{arith}
 use mir.Syntax.{w32, w64}
 use mir.Val.{SFits, toZ, ofZ}
 use lib.IntN.{ℤ, pos, negℤ, natAbs}
 use lib.ListN.{length, take, getD, set}
-use Rattle.std.proofs.shelf.Lists.{take-more, take-more-set, take-all, length-take, length-map, map-push}
+use Rattle.std.proofs.shelf.Lists.{take-more, take-more-set, length-take, length-map, map-push}
 use Rattle.std.proofs.shelf.Signed.{toZ-ofZ, ints}
 use Rattle.integers.specs.Nearest.{nearest, residue}
 use Rattle.integers.proofs.Nearest.{nearest-near, nearest-best}

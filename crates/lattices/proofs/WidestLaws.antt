@@ -20,15 +20,15 @@ module _ (n : ℕ) (member : List ℤ → Type 0) (pick : List ℤ → ℕ → L
       ((rs : List ℤ) (q : ℕ) → 1 ≤ length rs → Asked (widest-fit n member pick) rs q → SmallResidues q rs (pick rs q)) → Lawful (widest n member pick)
   widest-lawful wide within nearest small = fit-if-lawful (in-range n) Width (widest-fit n member pick) (λ e.
       let p = and-parts (leb 1 n) (leb n 32) e in let some = leb-true 1 n (p .0) in
-      record
-      { some-cell = some
-      ; few-cells = leb-true n 32 (p .1)
-      ; some-reading = omega arith
-      ; small-readings = omega arith
-      ; some-step = omega arith
-      ; small-steps = omega arith
-      ; members-are-as-wide = wide
-      ; pick-is-a-member = λ rs q a. within rs q (omega (arith, a .as-wide)) a
-      ; no-member-is-nearer = λ rs q a. nearest rs q (omega (arith, a .as-wide)) a
-      ; residues-are-small = λ rs q a. small rs q (omega (arith, a .as-wide)) a
+      record {
+        some-cell = some;
+        few-cells = leb-true n 32 (p .1);
+        some-reading = omega arith;
+        small-readings = omega arith;
+        some-step = omega arith;
+        small-steps = omega arith;
+        members-are-as-wide = wide;
+        pick-is-a-member = λ rs q a. within rs q (omega (arith, a .as-wide)) a;
+        no-member-is-nearer = λ rs q a. nearest rs q (omega (arith, a .as-wide)) a;
+        residues-are-small = λ rs q a. small rs q (omega (arith, a .as-wide)) a;
       })

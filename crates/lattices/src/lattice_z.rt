@@ -1,4 +1,3 @@
-ghost use mathlib.Core.Path.{_≡_};
 ghost use Rattle.lattices.specs.LatticeZ.{lattice-z};
 use super::cells::round_cells;
 use super::cells::shape_of;

@@ -1,16 +1,14 @@
-use mathlib.Core.Path.{_≡_, subst, sym, ap, _∙_}
+use mathlib.Core.Path.{_≡_, subst, ap}
 use mathlib.Core.List.{List, map}
-use Prim.Native.Nat.{ℕ, _<_, _≤_}
+use Prim.Native.Nat.{ℕ}
 use native.Mathlib.Omega.{arith}
 use borrow.Author.Needs.{needs}
-use lib.IntN.{ℤ, pos, natAbs}
+use lib.IntN.{pos, natAbs}
 use lib.ListN.{length, getD, take}
 use mir.Syntax.{w32, w64}
 use mir.Val.{SFits, toZ, ofZ}
-use Rattle.std.specs.declared.option.Option.the-variants.{None, Some}
 use Rattle.std.proofs.shelf.Lists.{take-all, length-map}
-use Rattle.std.proofs.shelf.Signed.{toZ-ofZ, ints}
-use Rattle.integers.specs.Nearest.{nearest, residue}
+use Rattle.integers.specs.Nearest.{residue}
 use Rattle.finders.specs.declared.choice.Greatest.{Greatest}
 use Rattle.finders.specs.Choice.{Chosen}
 use Rattle.lattices.specs.LatticeD.{left-over}
