@@ -34,7 +34,7 @@ pub impl Score for Least as LeastScore {
     }
 }
 
-// Best when greatest, as a correlation.
+// Best when greatest, as the size of a residue.
 #[derive(Clone, Copy)]
 pub struct Greatest(pub i64);
 

@@ -1,4 +1,4 @@
-// The lattices Z and D, finders of points with nothing below.
+// The lattices Z and D, finders of points that are built on no other finder.
 mod cells;
 pub mod lattice_d;
 pub mod lattice_z;
