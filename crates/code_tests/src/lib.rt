@@ -1,4 +1,6 @@
 // Tests of the public calls of the codes, run on examples.
+#![tactic(auto)]
+
 #[cfg(test)]
 mod tests {
     use codes::even_weight::EvenWeight;

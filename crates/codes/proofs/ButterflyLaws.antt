@@ -2,7 +2,7 @@
 use Rattle.std.proofs.Common.{◌≡◌, ℕ, zero, suc, ◌+◌, ◌-◌, ◌^◌, ◌<◌, ◌≤◌, true, List, [], ◌∷◌, ◌++◌, length, get_or, take, drop, set, ℤ, pos, ◌+ℤ◌, ◌-ℤ◌, nat_abs, refl, ap, ◌∙◌, ap₂, arith, w64, SFits}
 use Rattle.std.proofs.lemmas.Int.{ints}
 use Rattle.std.proofs.lemmas.List.{length-take-le, length-drop, get_or_append_left, get_or-append_right, set-append_left, set-append_right}
-use Rattle.finders.specs.Sizes.{within}
+use Rattle.finders.specs.Points.{within}
 use Rattle.finders.proofs.Within.{within_at, within_take, within_drop}
 use Rattle.finders.proofs.RoundingBits.{wide as wide_of}
 use Rattle.integers.specs.Sums.{zip_with}

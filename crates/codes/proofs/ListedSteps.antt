@@ -7,7 +7,8 @@ use Rattle.finders.specs.declared.choice.Greatest.{Greatest}
 use Rattle.finders.specs.declared.refusals.Refusal.TheVariants.{Entry}
 use Rattle.finders.specs.Choice.{Chosen, no_less}
 use Rattle.finders.specs.Meanings.{fit, unfit}
-use Rattle.finders.specs.Sizes.{in_range, within}
+use Rattle.finders.specs.Points.{within}
+use Rattle.finders.specs.Sizes.{in_range}
 use Rattle.finders.specs.WordFinders.{Same}
 use Rattle.finders.specs.Words.{fits, correlation, signed}
 use Rattle.finders.proofs.Firsts.{offered, offers_more, none_offered, chosen_is_first}

@@ -2,7 +2,7 @@
 use Rattle.std.proofs.Common.{◌≡◌, ℕ, suc, ◌+◌, ◌-◌, ◌*◌, ◌/◌, ◌^◌, ◌≤◌, true, List, ◌++◌, length, take, drop, ℤ, sym, ap, ◌∙◌, ap₂, append-nil, arith, take-append-drop}
 use native.Mathlib.Nat.{pow-succ'}
 use Rattle.std.proofs.lemmas.List.{length-take-le, length-drop, length-append, take_at, drop_at, take_rest, drop_all}
-use Rattle.finders.specs.Sizes.{within}
+use Rattle.finders.specs.Points.{within}
 use Rattle.finders.proofs.Within.{within_take, within_drop, within_append}
 use Rattle.codes.specs.Butterflies.{butterflies, crossed}
 use Rattle.codes.specs.ReedMuller.{spectrum}

@@ -6,7 +6,7 @@ use Rattle.finders.specs.declared.words.WordShape.{WordShape}
 use Rattle.finders.specs.Meanings.{fit}
 use Rattle.finders.specs.Words.{correlation}
 use Rattle.finders.specs.WordFinders.{WordLaws, Asked, Lawful, shape_of, find_checked}
-use Rattle.finders.proofs.Fitness.{fit_if_keeps, not_err}
+use Rattle.finders.proofs.Fitness.{unfit_unless_keeps, not_err}
 use Rattle.finders.proofs.FoundWords.{find_granted}
 use Rattle.codes.specs.Codes.{code_fit, code}
 
@@ -26,7 +26,7 @@ module _ (n : ℕ) (member : ℕ → Type 0) (pick : List ℤ → ℕ)
   }
 
   pub code_lawful : (sized : Bool) → (sized ≡ true → (1 ≤ n) × (n ≤ 32)) → Lawful (code sized n member pick)
-  code_lawful sized r = fit_if_keeps WordLaws sized Width (fit (code_fit n member pick)) (λ e. code_laws (r e))
+  code_lawful sized r = unfit_unless_keeps WordLaws sized Width (fit (code_fit n member pick)) (λ e. code_laws (r e))
 
 -- where the shape is answered, the size is right, and what is then granted was asked as it should be
 pub code_granted : (sized : Bool) (n : ℕ) (member : ℕ → Type 0) (pick : List ℤ → ℕ) (s : WordShape) (gs : List ℤ) (u : Unit {0}) → Ok s ≡ shape_of (code sized n member pick) → Ok u ≡ find_checked s.width s.gain_limit gs → (sized ≡ true) × Asked (code_fit n member pick) gs

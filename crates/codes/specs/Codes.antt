@@ -3,7 +3,7 @@ use Rattle.std.specs.Prelude.{ℕ, ◌^◌, Bool, cond, List, ℤ, Ok, Err, Resu
 use Rattle.finders.specs.declared.refusals.Refusal.{Refusal}
 use Rattle.finders.specs.declared.refusals.Refusal.TheVariants.{Width}
 use Rattle.finders.specs.declared.words.WordShape.{WordShape}
-use Rattle.finders.specs.Meanings.{Meaning, fit, fit_if}
+use Rattle.finders.specs.Meanings.{Meaning, fit, unfit_unless}
 use Rattle.finders.specs.Sizes.{in_range}
 use Rattle.finders.specs.WordFinders.{WordFit}
 
@@ -12,7 +12,7 @@ code_fit n member pick = record { width = n; gain_limit = 2 ^ 30; member = membe
 
 -- n cells, with this set and this pick, where a test of the size passes
 abbrev pub code : Bool → ℕ → (ℕ → Type 0) → (List ℤ → ℕ) → Meaning WordFit
-code sized n member pick = fit_if sized Width (fit (code_fit n member pick))
+code sized n member pick = unfit_unless sized Width (fit (code_fit n member pick))
 
 -- the shape of a code of n cells
 abbrev pub code_shape : ℕ → Result WordShape Refusal

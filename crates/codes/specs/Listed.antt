@@ -3,7 +3,7 @@ use Rattle.std.specs.Prelude.{ℕ, Bool, true, ◌&&◌, List, [], ◌∷◌, ma
 use Rattle.std.specs.List.{ContainsAt as Has}
 use Rattle.finders.specs.declared.refusals.Refusal.TheVariants.{Width, WordCount, Entry}
 use Rattle.finders.specs.Choice.{first_best, no_less}
-use Rattle.finders.specs.Meanings.{Meaning, fit, fit_if}
+use Rattle.finders.specs.Meanings.{Meaning, fit, unfit_unless}
 use Rattle.finders.specs.Sizes.{in_range}
 use Rattle.finders.specs.WordFinders.{WordFit}
 use Rattle.finders.specs.Words.{fits, correlation}
@@ -27,7 +27,7 @@ listed_fit n ws = code_fit n (Has ws) (first_listed ws)
 
 abbrev pub listed : ℕ → List ℕ → Meaning WordFit
 listed n ws =
-    fit_if (in_range n) Width
-    (fit_if (few (length ws)) WordCount
-    (fit_if (as_wide n ws) Entry
+    unfit_unless (in_range n) Width
+    (unfit_unless (few (length ws)) WordCount
+    (unfit_unless (as_wide n ws) Entry
     (fit (listed_fit n ws))))

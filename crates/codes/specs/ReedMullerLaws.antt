@@ -7,7 +7,7 @@ use Rattle.std.proofs.lemmas.Int.{ints}
 use Rattle.std.proofs.lemmas.Bool.{leb-true, and_parts, cond_both}
 use Rattle.finders.specs.declared.words.WordShape.{WordShape}
 use Rattle.finders.specs.Choice.{IsFirst, first_best, no_smaller}
-use Rattle.finders.specs.Sizes.{within}
+use Rattle.finders.specs.Points.{within}
 use Rattle.finders.specs.Words.{correlation}
 use Rattle.finders.specs.WordFinders.{Lawful, shape_of, find_checked}
 use Rattle.finders.proofs.Firsts.{first_best_is}

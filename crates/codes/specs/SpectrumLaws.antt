@@ -6,7 +6,7 @@ use Rattle.std.specs.List.{AllByRecursion as All}
 use Rattle.std.proofs.lemmas.List.{length-map}
 use Rattle.std.proofs.lemmas.Int.{ints}
 use Rattle.std.proofs.lemmas.Bool.{le-leb}
-use Rattle.finders.specs.Sizes.{within}
+use Rattle.finders.specs.Points.{within}
 use Rattle.finders.specs.Words.{correlation, signed}
 use Rattle.finders.proofs.Correlation.{correlation_size}
 use Rattle.codes.specs.Digits.{word, reversed}

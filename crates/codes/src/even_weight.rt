@@ -1,5 +1,5 @@
 ghost use Rattle.std.specs.Prelude.{◌≡◌, ◌^◌, ◌<◌, ◌≤◌, true, [], length, pos, MatchOption, slice_index_or, unsigned_abs};
-ghost use Rattle.finders.specs.Sizes.{within};
+ghost use Rattle.finders.specs.Points.{within};
 ghost use Rattle.finders.specs.Words.{correlation as correlation_of};
 ghost use Rattle.codes.specs.Digits.{word as word_of};
 ghost use Rattle.codes.specs.Universe.{signs as signs_of};

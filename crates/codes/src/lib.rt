@@ -1,4 +1,6 @@
 // Codes that are built on no other finder: finders of words.
+#![tactic(auto)]
+
 pub mod even_weight;
 pub mod laws;
 pub mod listed;

@@ -1,5 +1,5 @@
 ghost use Rattle.std.specs.Prelude.{◌≡◌, ◌^◌, ◌≤◌, true, length};
-ghost use Rattle.finders.specs.Sizes.{within};
+ghost use Rattle.finders.specs.Points.{within};
 ghost use Rattle.finders.specs.Words.{correlation as correlation_of};
 ghost use Rattle.codes.specs.Listed.{first_listed};
 ghost use Rattle.codes.specs.Tables.{listed_in};
@@ -7,7 +7,7 @@ ghost use Rattle.codes.specs.ListedLaws.{listed_lawful};
 
 use super::table::Table;
 use finders::choice::{FirstBest, Greatest};
-use finders::limits::MOST_GAIN;
+use finders::words::MOST_GAIN;
 use finders::refusals::Refusal;
 use finders::words::{WordFinder, WordShape, WordTester};
 

@@ -1,13 +1,14 @@
 ghost use Rattle.std.specs.Prelude.{◌≡◌, ◌-◌, ◌^◌, ◌<◌, ◌≤◌, true, List, [], map, length, take, ℤ, Decides, MatchOption, unsigned_abs};
 ghost use Rattle.finders.specs.Choice.{first_best, no_smaller};
-ghost use Rattle.finders.specs.Sizes.{within};
+ghost use Rattle.finders.specs.Points.{within};
 ghost use Rattle.finders.specs.Words.{correlation as correlation_of};
 ghost use Rattle.codes.specs.ReedMuller.{reed_muller, row_word, Codeword, signed_pick, picked};
 ghost use Rattle.codes.specs.ReedMullerLaws.{reed_muller_lawful};
 
 use super::transform::transform;
 use finders::choice::{FirstBest, Greatest};
-use finders::limits::{MOST_CELLS, MOST_GAIN};
+use finders::points::MOST_CELLS;
+use finders::words::MOST_GAIN;
 use finders::refusals::Refusal;
 use finders::words::{WordFinder, WordShape, WordTester};
 

@@ -1,7 +1,8 @@
 ghost use Rattle.std.specs.Prelude.{◌≡◌};
 ghost use Rattle.codes.specs.Codes.{code_shape};
 
-use finders::limits::{MOST_CELLS, MOST_GAIN};
+use finders::points::MOST_CELLS;
+use finders::words::MOST_GAIN;
 use finders::refusals::Refusal;
 use finders::words::WordShape;
 

@@ -1,5 +1,5 @@
 ghost use Rattle.std.specs.Prelude.{◌≡◌, ◌+◌, ◌^◌, ◌≤◌, true, length};
-ghost use Rattle.finders.specs.Sizes.{within};
+ghost use Rattle.finders.specs.Points.{within};
 ghost use Rattle.codes.specs.Butterflies.{butterflies as butterflies_of};
 ghost use Rattle.codes.specs.ReedMuller.{spectrum};
 

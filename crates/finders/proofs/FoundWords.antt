@@ -4,7 +4,7 @@ use Rattle.std.proofs.lemmas.Bool.{eqb-true}
 use Rattle.finders.specs.declared.refusals.Refusal.{Refusal}
 use Rattle.finders.specs.declared.refusals.Refusal.TheVariants.{Length, Magnitude}
 use Rattle.finders.specs.Meanings.{Meaning, fit, unfit, answered}
-use Rattle.finders.specs.Sizes.{within}
+use Rattle.finders.specs.Points.{within}
 use Rattle.finders.specs.Words.{correlation}
 use Rattle.finders.specs.WordFinders.{WordFit, WordLaws, Lawful, Asked, Outcome, Same, find_checked, find_answer}
 use Rattle.finders.proofs.Fitness.{passed}

@@ -3,7 +3,7 @@ pub mod Distances
 pub mod Within
 pub mod Digits
 pub mod Fitness
-pub mod FoundPoints
+pub mod Found
 pub mod FoundWords
 pub mod Choosing
 pub mod Firsts

@@ -2,7 +2,8 @@
 use Rattle.std.proofs.Common.{◌≡◌, ℕ, zero, suc, ◌+◌, ◌<◌, ◌≤◌, true, false, leb, List, [], ◌∷◌, ◌++◌, length, get_or, take, drop, ℤ, pos, nat_abs, refl, add-one, arith, drop-cons}
 use Rattle.std.proofs.lemmas.Bool.{le-leb, lt-leb, and_parts, leb-true}
 use Rattle.std.proofs.lemmas.List.{drop_all}
-use Rattle.finders.specs.Sizes.{in_range, within}
+use Rattle.finders.specs.Points.{within}
+use Rattle.finders.specs.Sizes.{in_range}
 
 module _ (limit : ℕ) (zs : List ℤ) (i : ℕ) where
   pub within_more : i < length zs → nat_abs (get_or zs i (pos 0)) ≤ limit → within limit (drop i zs) ≡ within limit (drop (i + 1) zs)

@@ -3,9 +3,8 @@ use Rattle.std.specs.Prelude.{◌≡◌, ℕ, ◌^◌, ◌≤◌, Bool, true, �
 use Rattle.finders.specs.declared.refusals.Refusal.{Refusal}
 use Rattle.finders.specs.declared.refusals.Refusal.TheVariants.{Length, Magnitude, Step}
 use Rattle.finders.specs.declared.points.PointShape.{PointShape}
-use Rattle.finders.specs.Meanings.{Meaning, fit, unfit, Keeps, Agree, checked, answered, placed, Tells}
-use Rattle.finders.specs.Points.{distance, SmallResidues}
-use Rattle.finders.specs.Sizes.{within}
+use Rattle.finders.specs.Meanings.{Meaning, fit, unfit, checked, answered, placed, Tells}
+use Rattle.finders.specs.Points.{distance, SmallResidues, within}
 
 -- a fit finder: the cells of its points, the largest size of a reading, the largest step, its set, and the point that it
 -- picks for readings at a step
@@ -36,7 +35,8 @@ pub record PointLaws (m : PointFit) : Type 0 where
   pub residues_are_small : (rs : List ℤ) (q : ℕ) → Asked m rs q → SmallResidues q rs (m.pick rs q)
 
 abbrev pub Lawful : Meaning PointFit → Type 0
-Lawful = Keeps PointLaws
+Lawful (unfit e) = Unit {0}
+Lawful (fit m) = PointLaws m
 
 -- the two mean the same
 pub record SameFit (m n : PointFit) : Type 0 where
@@ -47,7 +47,10 @@ pub record SameFit (m n : PointFit) : Type 0 where
   pub same_picks : (rs : List ℤ) (q : ℕ) → m.pick rs q ≡ n.pick rs q
 
 abbrev pub Same : Meaning PointFit → Meaning PointFit → Type 0
-Same = Agree SameFit
+Same (unfit e) (unfit f) = e ≡ f
+Same (unfit e) (fit n) = ⊥
+Same (fit m) (unfit f) = ⊥
+Same (fit m) (fit n) = SameFit m n
 
 -- ---- what the questions answer: 0 where the finder is unfit
 
@@ -97,7 +100,7 @@ pub record IsNearestMember (M : Meaning PointFit) (rs : List ℤ) (q : ℕ) (x :
   pub no_member_is_nearer : (y : List ℤ) → Member M y → d ≤ distance q rs y
   pub has_small_residues : SmallResidues q rs x
 
--- what a find comes to, in short: the nearest member is written and its distance answered, or nothing is written
+-- what a find comes to, in a word: the nearest member is written and its distance answered, or nothing is written
 abbrev pub Outcome : Meaning PointFit → List ℤ → ℕ → List ℤ → List ℤ → Result ℕ Refusal → Type 0
 Outcome M rs q before after (Ok d) = IsNearestMember M rs q after d
 Outcome M rs q before after (Err e) = after ≡ before

@@ -4,7 +4,7 @@ use Rattle.finders.specs.declared.refusals.Refusal.{Refusal}
 use Rattle.finders.specs.declared.refusals.Refusal.TheVariants.{Length, Magnitude, Entry}
 use Rattle.finders.specs.declared.words.WordShape.{WordShape}
 use Rattle.finders.specs.Meanings.{Meaning, fit, unfit, Keeps, Agree, checked, answered, Tells}
-use Rattle.finders.specs.Sizes.{within}
+use Rattle.finders.specs.Points.{within}
 use Rattle.finders.specs.Words.{fits, correlation}
 
 -- a fit finder: the cells of its words, the largest size of a gain, its set, and the word that it picks for gains

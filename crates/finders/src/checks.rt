@@ -1,11 +1,10 @@
 ghost use Rattle.std.specs.Prelude.{◌≡◌, not};
-ghost use Rattle.finders.specs.Sizes.{within};
+ghost use Rattle.finders.specs.Points.{within};
 ghost use Rattle.finders.specs.PointFinders.{find_checked, test_checked};
 ghost use Rattle.finders.specs.Words.{fits};
 ghost use Rattle.finders.specs.WordFinders.{find_checked as word_find_checked, test_checked as word_test_checked};
 
-use super::limits::MOST_CELLS;
-use super::points::PointShape;
+use super::points::{MOST_CELLS, PointShape};
 use super::refusals::Refusal;
 use super::words::WordShape;
 

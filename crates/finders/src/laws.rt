@@ -12,9 +12,9 @@ use super::words::WordFinder;
 // Theorems on the definitions that the contracts rest on, and on every implementation of an interface. These functions
 // do nothing: what counts is that each is proved to meet its contract.
 
-// Whatever a finder of points is asked: where it answers a distance, the point that it writes is a member of its set at just that
+// Whatever a finder is asked: where it answers a distance, the point that it writes is a member of its set at just that
 // distance, and no member is nearer; where it refuses, the place is as it was.
-pub fn what_a_point_finder_finds_is_nearest<F: PointFinder>(finder: &F)
+pub fn what_a_finder_finds_is_nearest<F: PointFinder>(finder: &F)
     ensures nearest_or_untouched { (rs place : List ℤ) (q : ℕ) → Outcome (meaning finder.now) rs q place (find_place (meaning finder.now) rs q place) (find_answer (meaning finder.now) rs q place) }
 {}
 

@@ -4,6 +4,15 @@ ghost use Rattle.finders.specs.PointFinders.{PointFit, Lawful, shape_of, width_o
 
 use super::refusals::Refusal;
 
+// The most cells of a group.
+pub const MOST_CELLS: usize = 32;
+
+// The largest size of a reading that any finder takes.
+pub const MOST_READING: u32 = 1 << 30;
+
+// The largest step that any finder takes.
+pub const MOST_STEP: u32 = 1 << 20;
+
 // How many cells the points of a finder have, the largest size of a reading, and the largest step.
 #[derive(Clone, Copy)]
 pub struct PointShape {
@@ -64,7 +73,7 @@ pub trait PointFinder {
     ghost lawful: { (x : Self) → Lawful (meaning x) };
 }
 
-// A finder that can tell the members of its set.
+// A finder that knows its set.
 pub trait PointTester: PointFinder {
     // Whether a point belongs to the set.
     fn contains(&self, point: &[i32]) -> Result<bool, Refusal>

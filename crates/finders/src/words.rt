@@ -4,6 +4,9 @@ ghost use Rattle.finders.specs.WordFinders.{WordFit, Lawful, shape_of, width_of,
 
 use super::refusals::Refusal;
 
+// The largest size of a gain that any finder of words takes.
+pub const MOST_GAIN: u32 = 1 << 30;
+
 // How many cells the words of a finder have, and the largest size of a gain.
 #[derive(Clone, Copy)]
 pub struct WordShape {

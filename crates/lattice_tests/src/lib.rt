@@ -1,4 +1,6 @@
 // Tests of the public calls of the lattices, run on examples.
+#![tactic(auto)]
+
 #[cfg(test)]
 mod tests {
     use finders::choice::{FirstBest, Greatest, Least};

@@ -1,53 +1,36 @@
--- The repaired point: the worst cell goes the other way.
+-- The repaired point: the worst-size cell goes the other way.
 use Rattle.std.specs.Prelude.{◌≡◌, ℕ, ◌+◌, ◌-◌, ◌*◌, ◌^◌, ◌<◌, ◌≤◌, max, Bool, true, false, List, [], ◌∷◌, map, length, get_or, set, ℤ, pos, FitsSigned, ◌≢◌, nat_le, slice_index_or, slice_set, unsigned_abs, refl}
-use Rattle.std.proofs.Common.{sym, ap, ap₂, ◌∙◌, inl, inr, mul-le-mul, mul-le-mul_left, add-mul, mul-add, mul_comm, arith, to_z, of_z, length-set}
+use Rattle.std.proofs.Common.{sym, ap, ap₂, ◌∙◌, mul-le-mul, mul-le-mul_left, add-mul, mul-add, mul_comm, arith, to_z, of_z, length-set}
 use Rattle.std.specs.Int.{w32, w64}
 use Rattle.std.proofs.Math.IntN.{ℤ_discrete}
-use Rattle.std.proofs.lemmas.Bool.{leb-true, leb-false, le-leb, lt-leb, cases_lt}
+use Rattle.std.proofs.lemmas.Bool.{leb-true, leb-false}
 use Rattle.std.proofs.lemmas.List.{get_or-map}
 use Rattle.std.proofs.lemmas.Int.{ints}
 use Rattle.integers.specs.Nearest.{nearest, residue}
 use Rattle.integers.specs.Sums.{sumℤ}
 use Rattle.integers.proofs.Nearest.{nearest_near, nearest_next, nearest_small}
-use Rattle.finders.specs.Choice.{as_good_as, no_smaller}
-use Rattle.finders.specs.Points.{square, distance, SmallResidues}
-use Rattle.finders.specs.Sizes.{within}
+use Rattle.finders.specs.Points.{square, distance, SmallResidues, within}
 use Rattle.finders.proofs.Distances.{distance_set, distance_at}
 use Rattle.finders.proofs.Within.{within_at}
 use Rattle.finders.proofs.RoundingLaws.{turned_left, other_way_apart}
 use Rattle.lattices.specs.LatticeZ.{rounded}
 use Rattle.finders.specs.Rounding.{turned}
-use Rattle.lattices.specs.LatticeD.{parity, left_over, worst_cell, repaired}
+use Rattle.lattices.specs.LatticeD.{parity, largest, left_over, worst_cell, repaired}
 use Rattle.lattices.specs.Parity.{parity_cons}
 use Rattle.lattices.specs.RoundedCells.{length_rounded, near_rounded, rounded_is_nearest}
-
--- the largest of some sizes
-abbrev largest : List ℕ → ℕ
-largest [] = 0
-largest (n ∷ ns) = max n (largest ns)
-
-no_smaller_than_largest : (n : ℕ) (ns : List ℕ) → as_good_as no_smaller n ns ≡ nat_le (largest ns) n
-no_smaller_than_largest n [] = sym (le-leb 0 n (omega arith))
-no_smaller_than_largest n (m ∷ ns) = rw (no_smaller_than_largest n ns) (elim (cases_lt n m) [
-  | inl h ↦ rw (lt-leb m n h, lt-leb (max m (largest ns)) n (omega arith))
-  | inr h ↦ rw (le-leb m n h) (elim (cases_lt n (largest ns)) [
-    | inl k ↦ rw (lt-leb (largest ns) n k, lt-leb (max m (largest ns)) n (omega arith))
-    | inr k ↦ rw (le-leb (largest ns) n k, le-leb (max m (largest ns)) n (omega arith))
-  ])
-])
 
 -- the largest residue size
 abbrev pub worst_size : ℕ → List ℤ → ℕ
 worst_size q rs = largest (map (left_over q) rs)
 
--- ---- the first cell is the worst, or a later one is
+-- ---- the first cell is the worst-size, or a later one is
 repaired_here : (q : ℕ) (r : ℤ) (rs : List ℤ) → nat_le (worst_size q rs) (left_over q r) ≡ true → repaired q (r ∷ rs) ≡ turned q r ∷ rounded q rs
-repaired_here q r rs h = rw (no_smaller_than_largest (left_over q r) (map (left_over q) rs) ∙ h)
+repaired_here q r rs h = rw h
 
 repaired_later : (q : ℕ) (r : ℤ) (rs : List ℤ) → nat_le (worst_size q rs) (left_over q r) ≡ false → repaired q (r ∷ rs) ≡ nearest q r ∷ repaired q rs
-repaired_later q r rs h = rw (no_smaller_than_largest (left_over q r) (map (left_over q) rs) ∙ h)
+repaired_later q r rs h = rw h
 
--- an induction over the cells, of which there is one at least: the first is the worst, or a later one is
+-- an induction over the cells, of which there is one at least: the first is the worst-size, or a later one is
 module _ (q : ℕ) (P : List ℤ → List ℤ → Type 0)
     (here : (r : ℤ) (rs : List ℤ) → worst_size q rs ≤ left_over q r → P (r ∷ rs) (turned q r ∷ rounded q rs))
     (later : (r : ℤ) (rs : List ℤ) → left_over q r < worst_size q rs → 1 ≤ length rs → P rs (repaired q rs) → P (r ∷ rs) (nearest q r ∷ repaired q rs)) where

@@ -3,8 +3,7 @@ ghost use Rattle.finders.specs.Points.{distance};
 ghost use Rattle.lattices.specs.LatticeZ.{rounded};
 ghost use Rattle.lattices.specs.Widest.{widest_shape};
 
-use finders::limits::{MOST_CELLS, MOST_READING, MOST_STEP};
-use finders::points::PointShape;
+use finders::points::{MOST_CELLS, MOST_READING, MOST_STEP, PointShape};
 use finders::refusals::Refusal;
 use finders::rounding::round;
 

@@ -1,6 +1,5 @@
 ghost use Rattle.std.specs.Prelude.{◌≡◌, ◌^◌, ◌<◌, ◌≤◌, true, [], length, MatchOption, ◌==◌};
-ghost use Rattle.finders.specs.Points.{distance as distance_of};
-ghost use Rattle.finders.specs.Sizes.{within};
+ghost use Rattle.finders.specs.Points.{distance as distance_of, within};
 ghost use Rattle.lattices.specs.LatticeZ.{rounded};
 ghost use Rattle.lattices.specs.LatticeD.{lattice_d, parity, repaired, worst_cell};
 ghost use Rattle.lattices.specs.DLaws.{d_lawful};

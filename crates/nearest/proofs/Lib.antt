@@ -1,6 +1,2 @@
 pub mod Texts
-pub mod Written
-pub mod Slashes
-pub mod Replies
 pub mod Sets
-pub mod CodeSets

@@ -1,4 +1,3 @@
 pub mod Tasks
 pub mod Answers
-pub mod Numbers
 pub mod Lines

@@ -1,5 +1,5 @@
 ghost use Rattle.std.specs.Prelude.{◌≡◌, ◌++◌, IfOk, string_bytes, codes, decimal};
-ghost use Rattle.nearest.specs.Answers.{spaced, answer_text, word_answer};
+ghost use Rattle.nearest.specs.Answers.{spaced, answer_text};
 
 use finders::refusals::Refusal;
 use std::alloc::{AllocError, Global};
@@ -8,7 +8,6 @@ use std::alloc::{AllocError, Global};
 #[derive(Drop)]
 pub enum Answer {
     Nearest(Vec<i32>, u64),
-    Word(u32, i64),
     Refused(Refusal),
     Unreadable,
 }
@@ -26,30 +25,13 @@ fn point_text(heap: Global, point: &[i32], distance: u64) -> Result<String, Allo
     Ok(text)
 }
 
-fn word_text(heap: Global, word: u32, correlation: i64) -> Result<String, AllocError>
-    ensures { IfOk result (λ s. string_bytes s ≡ answer_text (Answer.Word word correlation)) }
-{
-    format!(in heap; "word {word} correlation {correlation}")
-}
-
 impl Answer {
-    // What a find in a code is told as: the word and its correlation, or the refusal.
-    pub fn of_word(found: Result<(u32, i64), Refusal>) -> Answer
-        ensures tells_the_word_or_the_refusal { result ≡ word_answer found }
-    {
-        match found {
-            Ok((word, correlation)) => Answer::Word(word, correlation),
-            Err(refusal) => Answer::Refused(refusal),
-        }
-    }
-
     // The line that is printed.
     pub fn text(&self, heap: Global) -> Result<String, AllocError>
         ensures is_the_text_of_the_answer { IfOk result (λ s. string_bytes s ≡ answer_text self.now) }
     {
         match self {
             Answer::Nearest(point, distance) => point_text(heap, point, *distance),
-            Answer::Word(word, correlation) => word_text(heap, *word, *correlation),
             Answer::Refused(refusal) => {
                 let number = refusal.number();
                 format!(in heap; "refused {number}")

@@ -1,11 +1,9 @@
-ghost use Rattle.std.specs.Prelude.{◌<◌, map, length, IfSome, IfOk, string_bytes};
-ghost use Rattle.nearest.specs.Lines.{Words, FirstSlash, Finds, PointAnswer, CodeAnswer, PartsAnswer, ListedAnswer, TaskAnswer, Answers, Responds};
+ghost use Rattle.std.specs.Prelude.{List, map, length, ℤ, IfOk, Some, string_bytes, MatchOption};
+ghost use Rattle.nearest.specs.Lines.{Words, Readings, Finds, Told, Answers, Responds};
 ghost use Rattle.nearest.specs.Tasks.{meaning_of};
 
 use super::answers::Answer;
-use super::numbers::{signeds, unsigneds};
-use super::tasks::{Lattice, Task};
-use super::words::{Code, find_listed};
+use super::tasks::Lattice;
 use finders::refusals::Refusal;
 use std::alloc::{AllocError, Global};
 
@@ -18,6 +16,20 @@ fn words<'a>(heap: Global, line: &'a str) -> Result<Vec<&'a str>, AllocError>
         words.push(word)?;
     }
     Ok(words)
+}
+
+// The readings that the words write, or none where a word writes no number that fits.
+fn readings(heap: Global, words: &[&str]) -> Result<Option<Vec<i32>>, AllocError>
+    ensures { IfOk result (λ o. MatchOption o ((zs : List ℤ) → Readings (map (λ w. w.now) words.now) zs → ⊥) (λ v. Readings (map (λ w. w.now) words.now) v.items)) }
+{
+    let mut readings = Vec::new(heap);
+    for word in words {
+        let Ok(reading) = word.parse::<i32>() else {
+            return Ok(None);
+        };
+        readings.push(reading)?;
+    }
+    Ok(Some(readings))
 }
 
 fn nearest(
@@ -36,8 +48,8 @@ fn nearest(
 }
 
 // What a step and readings are answered.
-fn points_asked(heap: Global, lattice: Lattice, words: &[&str]) -> Result<Answer, AllocError>
-    ensures { IfOk result (λ a. PointAnswer lattice (map (λ w. w.now) words.now) a) }
+fn asked(heap: Global, lattice: Lattice, words: &[&str]) -> Result<Answer, AllocError>
+    ensures { IfOk result (λ a. Told (Some lattice) (map (λ w. w.now) words.now) a) }
 {
     let [step, rest @ ..] = words else {
         return Ok(Answer::Unreadable);
@@ -45,66 +57,9 @@ fn points_asked(heap: Global, lattice: Lattice, words: &[&str]) -> Result<Answer
     let Ok(step) = step.parse::<u32>() else {
         return Ok(Answer::Unreadable);
     };
-    match signeds(heap, rest)? {
+    match readings(heap, rest)? {
         Some(readings) => nearest(heap, lattice, step, &readings),
         None => Ok(Answer::Unreadable),
-    }
-}
-
-// What gains are answered.
-fn codewords_asked(heap: Global, code: Code, words: &[&str]) -> Result<Answer, AllocError>
-    ensures { IfOk result (λ a. CodeAnswer code (map (λ w. w.now) words.now) a) }
-{
-    match signeds(heap, words)? {
-        Some(gains) => Ok(Answer::of_word(code.find(&gains))),
-        None => Ok(Answer::Unreadable),
-    }
-}
-
-// Where the first slash stands.
-fn slash(words: &[&str]) -> Option<usize>
-    ensures is_among_the_words { IfSome result (λ i. i < length words.now) }
-    ensures is_the_first { FirstSlash (map (λ w. w.now) words.now) result }
-{
-    for (i, word) in words.iter().enumerate() {
-        if *word == "/" {
-            return Some(i);
-        }
-    }
-    None
-}
-
-// What a list of words and gains are answered.
-fn parts_asked(heap: Global, list: &[&str], gains: &[&str]) -> Result<Answer, AllocError>
-    ensures { IfOk result (λ a. PartsAnswer (map (λ w. w.now) list.now) (map (λ w. w.now) gains.now) a) }
-{
-    let Some(list) = unsigneds(heap, list)? else {
-        return Ok(Answer::Unreadable);
-    };
-    let Some(gains) = signeds(heap, gains)? else {
-        return Ok(Answer::Unreadable);
-    };
-    Ok(Answer::of_word(find_listed(&list, &gains)))
-}
-
-// What a list of words, a slash and gains are answered.
-fn listed_asked(heap: Global, words: &[&str]) -> Result<Answer, AllocError>
-    ensures { IfOk result (λ a. ListedAnswer (map (λ w. w.now) words.now) a) }
-{
-    match slash(words) {
-        Some(i) => parts_asked(heap, &words[0..i], &words[i + 1..words.len()]),
-        None => Ok(Answer::Unreadable),
-    }
-}
-
-// What the words behind the name of a task are answered.
-fn asked(heap: Global, task: Task, words: &[&str]) -> Result<Answer, AllocError>
-    ensures { IfOk result (λ a. TaskAnswer task (map (λ w. w.now) words.now) a) }
-{
-    match task {
-        Task::Points(lattice) => points_asked(heap, lattice, words),
-        Task::Codewords(code) => codewords_asked(heap, code, words),
-        Task::Listed => listed_asked(heap, words),
     }
 }
 
@@ -115,8 +70,8 @@ fn answer(heap: Global, words: &[&str]) -> Result<Answer, AllocError>
     let [name, rest @ ..] = words else {
         return Ok(Answer::Refused(Refusal::Kind));
     };
-    match Task::named(name) {
-        Some(task) => asked(heap, task, rest),
+    match Lattice::named(name) {
+        Some(lattice) => asked(heap, lattice, rest),
         None => Ok(Answer::Refused(Refusal::Kind)),
     }
 }

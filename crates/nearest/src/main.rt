@@ -1,9 +1,9 @@
-// Reads tasks, one a line, and prints the nearest point or the best word of each.
+// Reads tasks, one a line, and prints the nearest point of each.
+#![tactic(auto)]
+
 mod answers;
 mod lines;
-mod numbers;
 mod tasks;
-mod words;
 
 use lines::respond;
 use std::io;

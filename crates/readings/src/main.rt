@@ -1,11 +1,10 @@
 // Runs the worked readings through the library, and prints what comes out.
+#![tactic(auto)]
+
 mod worked;
 
-use codes::even_weight::EvenWeight;
-use codes::reed_muller::ReedMuller;
 use finders::points::PointFinder;
 use finders::rounding::round;
-use finders::words::WordFinder;
 use lattices::lattice_d::LatticeD;
 use std::io;
 use worked::all_worked_readings_hold;
@@ -23,23 +22,6 @@ fn print_point(rt: &HostRuntime, readings: &[i32; 4]) -> io::Result<()> {
     }
 }
 
-fn print_word<F: WordFinder>(
-    rt: &HostRuntime,
-    name: &str,
-    finder: &F,
-    gains: &[i32; 4],
-) -> io::Result<()> {
-    match finder.find(gains) {
-        Ok((word, correlation)) => println!(rt;
-            "{name} of {gains:?} is word {word} with correlation {correlation}"
-        ),
-        Err(refusal) => {
-            let number = refusal.number();
-            println!(rt; "{name} of {gains:?} is refused {number}")
-        }
-    }
-}
-
 fn main(rt: HostRuntime) -> io::Result<()> {
     all_worked_readings_hold();
     for reading in [15, -15, 5, 16] {
@@ -50,7 +32,5 @@ fn main(rt: HostRuntime) -> io::Result<()> {
         let number = round(reading, STEP).other_way();
         println!(rt; "{reading} the other way is {number}")?;
     }
-    print_point(&rt, &[10, 0, 0, 0])?;
-    print_word(&rt, "even", &EvenWeight::new(4), &[0, 0, -4, 1])?;
-    print_word(&rt, "Reed-Muller", &ReedMuller::new(2), &[1, 1, 1, -1])
+    print_point(&rt, &[10, 0, 0, 0])
 }

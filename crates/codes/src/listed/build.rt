@@ -6,7 +6,7 @@ ghost use Rattle.codes.specs.contracts.listed.ListedWordFinder.TheImpl.{ghosts};
 use super::super::table::{MOST_WORDS, Table};
 use super::Listed;
 use finders::checks::has_digit_beyond;
-use finders::limits::MOST_CELLS;
+use finders::points::MOST_CELLS;
 use finders::refusals::Refusal;
 
 // A copy of the words, or the first refusal that applies to them.

@@ -1,5 +1,5 @@
 use Rattle.std.proofs.Common.{◌≡◌, drop}
-use Rattle.finders.specs.Sizes.{within}
+use Rattle.finders.specs.Points.{within}
 use Rattle.finders.proofs.checks.all_within.Given as goal
 
 -- what is left decides

@@ -1,18 +1,14 @@
-use Rattle.std.proofs.Common.{◌≡◌, ℕ, List, map, length, get_or, take, pos, nat_abs, sym, refl, ap, ◌∙◌, subst, arith, w32, w64, SFits, to_z, of_z, rules}
-use Rattle.std.proofs.lemmas.List.{take_all, length-map, get_or-map}
+use Rattle.std.proofs.Common.{◌≡◌, ℕ, List, map, length, get_or, take, pos, nat_abs, ap, subst, arith, w32, w64, SFits, to_z, of_z, rules}
+use Rattle.std.proofs.lemmas.List.{take_all, length-map}
+use Rattle.integers.specs.Nearest.{residue}
 use Rattle.finders.specs.declared.choice.Greatest.{Greatest}
-use Rattle.finders.specs.Choice.{Chosen, no_smaller}
-use Rattle.finders.proofs.Firsts.{offered, offers_more, none_offered, chosen_is_first, map_none}
-use Rattle.finders.proofs.Scores.{Great, large, great, large_decides}
+use Rattle.finders.specs.Choice.{Chosen}
 use Rattle.lattices.specs.LatticeD.{left_over}
 use Rattle.lattices.specs.RoundedCells.{length_rounded, residue_told, abs_told, abs_can}
 use Rattle.lattices.specs.Repair.{rounded_at, left_over_small}
+use Rattle.lattices.proofs.Worst.{offered, at_least, chosen_is_first_largest, none_offered, offers_more}
 use Rattle.lattices.proofs.lattice_d.worst.Goals as goal
 use Rattle.lattices.proofs.lattice_d.worst.Goals.{After-residue-of, After-loop-i}
-
--- the sizes of the residues
-abbrev sizes : goal.After-loop-i → List ℕ
-sizes c = map (left_over c.args.step) c.args.readings.now
 
 -- the residue that is offered
 size : (c : goal.After-residue-of) → nat_abs c.residue-of.result ≡ left_over c.args.step (get_or c.args.readings.now c.loop-i.i (pos 0))
@@ -22,8 +18,8 @@ size c =
     residue_told c.args.step _ _ c.residue-of.result f g c.residue-of.ensures.is_what_the_number_leaves (rounded_at c.args.step c.args.readings.now c.args.point.now c.loop-i.i c.requires.rounded c.loop-i-test.true)
 
 -- what is held in the end
-all_offered : (c : goal.After-loop-i) → Chosen Great (offered (λ i _. i) large 0 (sizes c)) c.loop-i.worst.held
-all_offered c = rw (take_all c.loop-i.i (sizes c) (rw length-map c.loop-i-test.false)) at c.loop-i.invariant
+all_offered : (c : goal.After-loop-i) → Chosen at_least (offered 0 (map (left_over c.args.step) c.args.readings.now)) c.loop-i.worst.held
+all_offered c = rw (take_all c.loop-i.i c.args.readings.now c.loop-i-test.false) at c.loop-i.invariant
 
 pub bounds-point-i : goal.bounds-point-i
 bounds-point-i c = omega (arith, ap length c.requires.rounded, length_rounded c.args.step c.args.readings.now)
@@ -35,21 +31,16 @@ pub loop-i-preserved : goal.loop-i-preserved
 loop-i-preserved c =
     let f : SFits w64 c.residue-of.result = search rules in
     let g : SFits w64 c.abs.result = search rules in
-    let i = c.loop-i.i in
-    let rs = c.args.readings.now in
-    let ns = map (left_over c.args.step) rs in
-    let n : nat_abs c.residue-of.result ≡ get_or ns i 0 = size (goal.at.loop-i-preserved c).After-residue-of ∙ sym (get_or-map (left_over c.args.step) rs i (pos 0) 0 c.loop-i-test.true) in
-    let more = offers_more (λ k _. k) large ns i 0 i (great (to_z w64 (of_z w64 c.abs.result))) (rw length-map c.loop-i-test.true) refl (ap great (abs_told c.residue-of.result c.abs.result _ n f c.abs.ensures.value g)) in
-    subst (λ (v : List (ℕ × Greatest)). Chosen Great v c.offer.new.self.held) more (c.offer.ensures.holds_the_first_best (offered (λ k _. k) large 0 (take i ns)) c.loop-i.invariant)
+    let n : nat_abs c.residue-of.result ≡ left_over c.args.step (get_or c.args.readings.now c.loop-i.i (pos 0)) = size (goal.at.loop-i-preserved c).After-residue-of in
+    let more = offers_more (left_over c.args.step) c.args.readings.now c.loop-i.i (to_z w64 (of_z w64 c.abs.result)) c.loop-i-test.true (abs_told c.residue-of.result c.abs.result _ n f c.abs.ensures.value g) in
+    subst (λ (v : List (ℕ × Greatest)). Chosen at_least v c.offer.new.self.held) more (c.offer.ensures.holds_the_first_best (offered 0 (map (left_over c.args.step) (take c.loop-i.i c.args.readings.now))) c.loop-i.invariant)
 
 pub returns-in-Some : goal.returns-in-Some
 returns-in-Some c =
-    let ns = map (left_over c.args.step) c.args.readings.now in
-    let f = subst (Chosen Great (offered (λ i _. i) large 0 ns)) c.in-Some.is (all_offered (goal.at.returns-in-Some c).After-loop-i) in
-    let p = chosen_is_first (λ i _. i) large no_smaller Great large_decides 0 ns c.in-Some.i c.in-Some.field-0-1 f in
-    (p.1, rw p.1 (rw length-map at p.0))
+    let f = subst (Chosen at_least (offered 0 (map (left_over c.args.step) c.args.readings.now))) c.in-Some.is (all_offered (goal.at.returns-in-Some c).After-loop-i) in
+    let p = chosen_is_first_largest (map (left_over c.args.step) c.args.readings.now) c.in-Some.i c.in-Some.field-0-1 f in
+    (p.0, rw length-map at p.1)
 
 pub returns-in-None : goal.returns-in-None
 returns-in-None c =
-    let ns = map (left_over c.args.step) c.args.readings.now in
-    map_none (left_over c.args.step) c.args.readings.now (none_offered (λ i _. i) large ns (subst (Chosen Great (offered (λ i _. i) large 0 ns)) c.in-None.is (all_offered (goal.at.returns-in-None c).After-loop-i)))
+    none_offered (left_over c.args.step) c.args.readings.now (subst (Chosen at_least (offered 0 (map (left_over c.args.step) c.args.readings.now))) c.in-None.is (all_offered (goal.at.returns-in-None c).After-loop-i))

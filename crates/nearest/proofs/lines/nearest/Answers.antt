@@ -2,7 +2,7 @@ use Rattle.std.proofs.Common.{◌≡◌, length, arith, rules}
 use Rattle.std.specs.Vec.{with_items}
 use Rattle.std.proofs.lemmas.List.{with_items_is}
 use Rattle.nearest.specs.Tasks.{meaning_of}
-use Rattle.nearest.proofs.Replies.{found_nearest, found_refused}
+use Rattle.nearest.proofs.Texts.{found_nearest, found_refused}
 use Rattle.nearest.proofs.lines.nearest.Goals as goal
 
 pub returns-in-Ok : goal.returns-in-Ok
