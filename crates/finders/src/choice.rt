@@ -68,7 +68,7 @@ impl<C: Copy, S: Score> FirstBest<C, S> {
 
     // A candidate more. Whatever was offered before, what is then held is the first best of it all.
     pub fn offer(&mut self, candidate: C, score: S)
-        ensures holds_the_first_best { (offers : List (C × S)) → Chosen good offers self.old.held → Chosen good (offers ++ (candidate, score) ∷ []) self.new.held }
+        ensures holds_the_first_best { (offers : List (C × S)) → Chosen S.good offers self.old.held → Chosen S.good (offers ++ (candidate, score) ∷ []) self.new.held }
     {
         let stays = match self.held {
             Some((_, held)) => held.at_least(score),

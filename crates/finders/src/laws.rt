@@ -15,13 +15,13 @@ use super::words::WordFinder;
 // Whatever a finder is asked: where it answers a distance, the point that it writes is a member of its set at just that
 // distance, and no member is nearer; where it refuses, the place is as it was.
 pub fn what_a_finder_finds_is_nearest<F: PointFinder>(finder: &F)
-    ensures nearest_or_untouched { (rs place : List ℤ) (q : ℕ) → Outcome (meaning finder.now) rs q place (find_place (meaning finder.now) rs q place) (find_answer (meaning finder.now) rs q place) }
+    ensures nearest_or_untouched { (rs place : List ℤ) (q : ℕ) → Outcome (F.meaning finder.now) rs q place (find_place (F.meaning finder.now) rs q place) (find_answer (F.meaning finder.now) rs q place) }
 {}
 
 // Whatever a finder of words is asked: where it answers a word and a correlation, the word is a member of its set with just
 // that correlation, and no member has a greater one.
 pub fn what_a_word_finder_finds_is_best<F: WordFinder>(finder: &F)
-    ensures best_or_refused { (gs : List ℤ) → WordOutcome (meaning finder.now) gs (word_answer (meaning finder.now) gs) }
+    ensures best_or_refused { (gs : List ℤ) → WordOutcome (F.meaning finder.now) gs (word_answer (F.meaning finder.now) gs) }
 {}
 
 // The correlation is the sum of gain times sign over the cells: it is 0 for no cell, and one cell more adds its gain times the

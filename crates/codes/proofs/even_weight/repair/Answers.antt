@@ -10,14 +10,14 @@ use Rattle.codes.proofs.even_weight.repair.Goals.{In-Some}
 small : (c : goal.In-Some) → c.in-Some.field-0-1.0 ≤ 2 ^ 30
 small c = rw c.in-Some.ensures.2 (within_at (2 ^ 30) c.args.gains.now c.in-Some.i c.requires.small c.in-Some.ensures.1)
 
-pub overflow-cast-result-in-Some : goal.overflow-cast-result-in-Some
-overflow-cast-result-in-Some c = omega (arith, ints, small (goal.at.overflow-cast-result-in-Some c).In-Some)
+pub overflow_cast-result-in-Some : goal.overflow_cast-result-in-Some
+overflow_cast-result-in-Some c = omega (arith, ints, small (goal.at.overflow_cast-result-in-Some c).In-Some)
 
-pub overflow-mul-result : goal.overflow-mul-result
-overflow-mul-result c = omega (arith, ints, small (goal.at.overflow-mul-result c).In-Some)
+pub overflow_mul-result : goal.overflow_mul-result
+overflow_mul-result c = omega (arith, ints, small (goal.at.overflow_mul-result c).In-Some)
 
-pub overflow-sub-result : goal.overflow-sub-result
-overflow-sub-result c = omega (arith, ints, small (goal.at.overflow-sub-result c).In-Some, c.ranges.correlation.sfits, c.requires.correlation, correlation_signs c.args.gains.now)
+pub overflow_sub-result : goal.overflow_sub-result
+overflow_sub-result c = omega (arith, ints, small (goal.at.overflow_sub-result c).In-Some, c.ranges.correlation.sfits, c.requires.correlation, correlation_signs c.args.gains.now)
 
 pub returns-in-Some : goal.returns-in-Some
 returns-in-Some c =

@@ -13,7 +13,7 @@ loop-i-preserved c =
     let gs = c.args.gains.now in
     let i = c.loop-i.i in
     let f : SFits w32 (get_or gs i (pos 0)) = search rules in
-    let n : c.from.result ≡ get_or (map nat_abs gs) i 0 = c.from.ensures ∙ c.unsigned-abs.ensures.value ∙ ap nat_abs (to_z-of_z w32 _ f) ∙ sym (get_or-map nat_abs gs i (pos 0) 0 c.loop-i-test.true) in
+    let n : c.from.result ≡ get_or (map nat_abs gs) i 0 = c.from.ensures ∙ c.unsigned_abs.ensures.value ∙ ap nat_abs (to_z-of_z w32 _ f) ∙ sym (get_or-map nat_abs gs i (pos 0) 0 c.loop-i-test.true) in
     let more = offers_more (λ k _. k) small (map nat_abs gs) i 0 i (small c.from.result) (rw (length-map gs nat_abs) c.loop-i-test.true) refl (ap small n) in
     subst (λ (v : List (ℕ × Least)). Chosen Little v c.offer.new.self.held) more (c.offer.ensures.holds_the_first_best (offered (λ k _. k) small 0 (take i (map nat_abs gs))) c.loop-i.invariant)
 

@@ -1,4 +1,4 @@
 use Rattle.codes.proofs.reed_muller.+is_codeword.Given as goal
 
-abbrev pub decreases-is-codeword : goal.decreases-is-codeword
-decreases-is-codeword l = l.m
+abbrev pub decreases-is_codeword : goal.decreases-is_codeword
+decreases-is_codeword l = l.m

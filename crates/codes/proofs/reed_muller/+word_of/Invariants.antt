@@ -1,4 +1,4 @@
 use Rattle.codes.proofs.reed_muller.+word_of.Given as goal
 
-abbrev pub decreases-word-of : goal.decreases-word-of
-decreases-word-of l = l.m
+abbrev pub decreases-word_of : goal.decreases-word_of
+decreases-word_of l = l.m

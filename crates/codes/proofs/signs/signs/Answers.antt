@@ -19,7 +19,7 @@ loop-i-preserved c =
     let more = total_more gs i here in
     let d : c.from.result ≡ sign (get_or gs i (pos 0)) = c.from.ensures ∙ ap (λ (g : ℤ). bool_byte (lt_z g (pos 0))) (to_z-of_z w32 _ f) ∙ sign_told (get_or gs i (pos 0)) in
     let digit = ap (λ (v : ℕ). bit_or v ((c.from.result * 2 ^ i) % 2 ^ 32)) c.loop-i.invariant.0 ∙ signs_more gs i here c.from.result few d in
-    (digit, omega (arith, ints, c.from-correlation.ensures, c.unsigned-abs.ensures.value, c.loop-i.invariant.1, c.loop-i.invariant.2), omega (arith, ints, c.loop-i.invariant.2))
+    (digit, omega (arith, ints, c.from-correlation.ensures, c.unsigned_abs.ensures.value, c.loop-i.invariant.1, c.loop-i.invariant.2), omega (arith, ints, c.loop-i.invariant.2))
 
 pub returns : goal.returns
 returns c =

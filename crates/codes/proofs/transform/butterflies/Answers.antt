@@ -5,11 +5,11 @@ use Rattle.codes.proofs.transform.butterflies.Goals as goal
 pub loop-i-init : goal.loop-i-init
 loop-i-init c = sym (take-append-drop c.args.half c.args.table.now)
 
-pub overflow-add-table : goal.overflow-add-table
-overflow-add-table c = sum_fits c.args.half c.loop-i.i c.args.table.now c.loop-i.table c.requires.two_halves c.requires.small c.loop-i-test.true c.loop-i.invariant
+pub overflow_add-table : goal.overflow_add-table
+overflow_add-table c = sum_fits c.args.half c.loop-i.i c.args.table.now c.loop-i.table c.requires.two_halves c.requires.small c.loop-i-test.true c.loop-i.invariant
 
-pub overflow-sub-table : goal.overflow-sub-table
-overflow-sub-table c = difference_fits c.args.half c.loop-i.i c.args.table.now c.loop-i.table c.requires.two_halves c.requires.small c.loop-i-test.true c.loop-i.invariant
+pub overflow_sub-table : goal.overflow_sub-table
+overflow_sub-table c = difference_fits c.args.half c.loop-i.i c.args.table.now c.loop-i.table c.requires.two_halves c.requires.small c.loop-i-test.true c.loop-i.invariant
 
 pub loop-i-preserved : goal.loop-i-preserved
 loop-i-preserved c = turn c.args.half c.loop-i.i c.args.table.now c.loop-i.table c.requires.two_halves c.requires.small c.loop-i-test.true c.loop-i.invariant

@@ -3,9 +3,9 @@ use Rattle.std.proofs.lemmas.Int.{ints}
 use Rattle.finders.proofs.Within.{within_more, within_over, within_end}
 use Rattle.finders.proofs.checks.all_within.Goals as goal
 
-pub returns-then-unsigned-abs-limit : goal.returns-then-unsigned-abs-limit
-returns-then-unsigned-abs-limit c = record {
-  tells-whether-all-are-within =
+pub returns-then-unsigned_abs-limit : goal.returns-then-unsigned_abs-limit
+returns-then-unsigned_abs-limit c = record {
+  tells_whether_all_are_within =
       sym (within_over c.args.limit c.args.numbers.now c.loop-number.number-index c.loop-number-test.true (omega (arith, ints))) ∙ c.loop-number.invariant;
 }
 

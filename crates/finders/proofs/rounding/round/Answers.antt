@@ -13,7 +13,7 @@ up c =
     let some : 1 ≤ c.max-step.result = omega arith in
     let d = c.divide-number.ensures in
     let half : pos c.max-step.result <ℤ (pos 2 *ℤ c.divide-number.result.1) = omega (arith, ints, c.if-residue-step.true, d.remainder_is_small) in
-    delivered (max c.args.step 1) c.max-step.result c.args.reading _ _ _ _ c.max-step.ensures some c.max-step.type-inv c.ranges.reading
+    delivered (max c.args.step 1) c.max-step.result c.args.reading _ _ _ _ c.max-step.ensures some c.max-step.type_inv c.ranges.reading
     (rounds_up c.max-step.result _ _ _ some d half) (omega (arith, ints, d.quotient_is_small)) (omega (arith, ints, d.remainder_is_small))
 
 down : (c : goal.Then-residue-step-2) → CastOwed c.args.step c.args.reading (wide c.divide-number.result.0 -ℤ pos 1) (wide c.divide-number.result.1 +ℤ wide c.from-step.result)
@@ -21,7 +21,7 @@ down c =
     let some : 1 ≤ c.max-step.result = omega arith in
     let d = c.divide-number.ensures in
     let half : (pos 2 *ℤ c.divide-number.result.1) <ℤ neg_ℤ (pos c.max-step.result) = omega (arith, ints, c.if-residue-step-2.true, d.remainder_is_small) in
-    delivered (max c.args.step 1) c.max-step.result c.args.reading _ _ _ _ c.max-step.ensures some c.max-step.type-inv c.ranges.reading
+    delivered (max c.args.step 1) c.max-step.result c.args.reading _ _ _ _ c.max-step.ensures some c.max-step.type_inv c.ranges.reading
     (rounds_down c.max-step.result _ _ _ some d half) (omega (arith, ints, d.quotient_is_small)) (omega (arith, ints, d.remainder_is_small))
 
 off : (c : goal.Else-residue-step-2) → CastOwed c.args.step c.args.reading c.divide-number.result.0 c.divide-number.result.1
@@ -32,26 +32,29 @@ off c =
     let rest : SFits w64 c.divide-number.result.1 = search rules in
     let top : (pos 2 *ℤ c.divide-number.result.1) ≤ℤ pos c.max-step.result = omega (arith, ints, c.if-residue-step.false, d.remainder_is_small) in
     let bottom : neg_ℤ (pos c.max-step.result) ≤ℤ (pos 2 *ℤ c.divide-number.result.1) = omega (arith, ints, c.if-residue-step-2.false, d.remainder_is_small) in
-    delivered (max c.args.step 1) c.max-step.result c.args.reading _ _ _ _ c.max-step.ensures some c.max-step.type-inv c.ranges.reading
+    delivered (max c.args.step 1) c.max-step.result c.args.reading _ _ _ _ c.max-step.ensures some c.max-step.type_inv c.ranges.reading
     (rounds_off c.max-step.result _ _ _ some d top bottom) (to_z-of_z w64 _ whole) (to_z-of_z w64 _ rest)
 
-pub overflow-cast-result : goal.overflow-cast-result
-overflow-cast-result c = (up c).0
+pub overflow_cast-result : goal.overflow_cast-result
+overflow_cast-result c = (up c).0
 
 pub returns-then-residue-step : goal.returns-then-residue-step
 returns-then-residue-step c = let o = (up c).2 in record { is_the_nearest_number = o.number; leaves_the_residue = o.leaves; no_number_is_nearer = o.no_nearer; a_tie_goes_towards_zero = o.towards_zero }
 
-pub overflow-cast-result-then-residue-step-2 : goal.overflow-cast-result-then-residue-step-2
-overflow-cast-result-then-residue-step-2 c = (down c).0
+pub overflow_cast-result-then-residue-step-2 : goal.overflow_cast-result-then-residue-step-2
+overflow_cast-result-then-residue-step-2 c = (down c).0
+
+pub overflow_cast-result-then-residue-step-2-2 : goal.overflow_cast-result-then-residue-step-2-2
+overflow_cast-result-then-residue-step-2-2 c = (down c).1
 
 pub returns-then-residue-step-2 : goal.returns-then-residue-step-2
 returns-then-residue-step-2 c = let o = (down c).2 in record { is_the_nearest_number = o.number; leaves_the_residue = o.leaves; no_number_is_nearer = o.no_nearer; a_tie_goes_towards_zero = o.towards_zero }
 
-pub overflow-cast-result-else-residue-step-2 : goal.overflow-cast-result-else-residue-step-2
-overflow-cast-result-else-residue-step-2 c = (off c).0
+pub overflow_cast-result-else-residue-step-2 : goal.overflow_cast-result-else-residue-step-2
+overflow_cast-result-else-residue-step-2 c = (off c).0
 
-pub overflow-cast-result-else-residue-step-2-2 : goal.overflow-cast-result-else-residue-step-2-2
-overflow-cast-result-else-residue-step-2-2 c = (off c).1
+pub overflow_cast-result-else-residue-step-2-2 : goal.overflow_cast-result-else-residue-step-2-2
+overflow_cast-result-else-residue-step-2-2 c = (off c).1
 
 pub returns-else-residue-step-2 : goal.returns-else-residue-step-2
 returns-else-residue-step-2 c = let o = (off c).2 in record { is_the_nearest_number = o.number; leaves_the_residue = o.leaves; no_number_is_nearer = o.no_nearer; a_tie_goes_towards_zero = o.towards_zero }

@@ -17,11 +17,11 @@ more : (c : goal.After-from-size) → let rs = take (c.loop-i.i + 1) c.args.read
     c.loop-i.distance + c.from-size.result * c.from-size.result ≡ distance c.args.step rs (rounded c.args.step rs)
 more c =
     let g : SFits w32 c.round-cell.result.residue = search rules in
-    let size = c.from-size.ensures ∙ c.unsigned-abs.ensures.value ∙ ap nat_abs (to_z-of_z w32 _ g ∙ (told c).1) in
+    let size = c.from-size.ensures ∙ c.unsigned_abs.ensures.value ∙ ap nat_abs (to_z-of_z w32 _ g ∙ (told c).1) in
     distance_more c.args.step c.args.readings.now c.loop-i.i c.loop-i-test.true c.loop-i.distance c.from-size.result size c.loop-i.invariant.1
 
-pub overflow-add-distance : goal.overflow-add-distance
-overflow-add-distance c =
+pub overflow_add-distance : goal.overflow_add-distance
+overflow_add-distance c =
     let b = distance_fits c.args.step (c.loop-i.i + 1) c.args.readings.now c.requires.some_step c.requires.small_step c.requires.few_cells in
     let m = more c in omega arith
 

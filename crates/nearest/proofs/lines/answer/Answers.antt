@@ -5,8 +5,8 @@ use Rattle.nearest.specs.Lines.{Told, Answers}
 use Rattle.nearest.proofs.Texts.{answers_none, answers_some}
 use Rattle.nearest.proofs.lines.answer.Goals as goal
 
-pub returns-in-default : goal.returns-in-default
-returns-in-default c = answers_none c.args.words.now (search rules)
+pub returns-in_default : goal.returns-in_default
+returns-in_default c = answers_none c.args.words.now (search rules)
 
 pub returns-in-Some : goal.returns-in-Some
 returns-in-Some c =

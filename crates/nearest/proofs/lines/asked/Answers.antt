@@ -10,8 +10,8 @@ use Rattle.nearest.proofs.lines.asked.Goals as goal
 abbrev behind : List (Bor (List ℕ)) → List (List ℕ)
 behind words = map (λ w. w.now) (take (length words - 1) (drop 1 words))
 
-pub returns-in-default : goal.returns-in-default
-returns-in-default c = told_none c.args.words.now c.args.lattice (search rules)
+pub returns-in_default : goal.returns-in_default
+returns-in_default c = told_none c.args.words.now c.args.lattice (search rules)
 
 pub returns-in-Some : goal.returns-in-Some
 returns-in-Some c =
@@ -19,7 +19,7 @@ returns-in-Some c =
     let step = c.in-Ok.ensures.reads.0 in
     let rs = c.deref.result.now in
     let read : Readings (behind c.args.words.now) rs = subst (Readings (behind c.args.words.now)) (sym c.deref.ensures.value)
-    (MatchOption-at_some ((zs : List ℤ) → Readings (behind c.args.words.now) zs → ⊥) (λ v. Readings (behind c.args.words.now) (vec_items v)) c.in-Some.readings c.in-Some.is c.in-ok-readings.ensures) in
+    (MatchOption-at_some ((zs : List ℤ) → Readings (behind c.args.words.now) zs → ⊥) (λ v. Readings (behind c.args.words.now) (vec_items v)) c.in-Some.readings c.in-Some.is c.in_ok-readings.ensures) in
     IfOk-weaker c.nearest.result (λ a. Finds (meaning_of c.args.lattice (length rs)) rs c.in-Ok.step a) (λ a. Told (Some c.args.lattice) (map (λ w. w.now) c.args.words.now) a)
     (λ a f. told_some c.args.words.now _ c.args.lattice a some (asked_found c.args.lattice _ (behind c.args.words.now) c.in-Ok.step rs a (record { digits = step.0.0; fits = step.0.1; is = step.1 }) read f))
     c.nearest.ensures
@@ -27,5 +27,5 @@ returns-in-Some c =
 pub returns-in-None : goal.returns-in-None
 returns-in-None c =
     let some : 1 ≤ length c.args.words.now = search rules in
-    let none = MatchOption-at_none ((zs : List ℤ) → Readings (behind c.args.words.now) zs → ⊥) (λ v. Readings (behind c.args.words.now) (vec_items v)) c.in-None.is c.in-ok-readings.ensures in
+    let none = MatchOption-at_none ((zs : List ℤ) → Readings (behind c.args.words.now) zs → ⊥) (λ v. Readings (behind c.args.words.now) (vec_items v)) c.in-None.is c.in_ok-readings.ensures in
     told_no_readings c.args.words.now c.args.lattice some none

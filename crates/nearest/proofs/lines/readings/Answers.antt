@@ -4,15 +4,15 @@ use Rattle.std.proofs.lemmas.Int.{to_z-of_z}
 use Rattle.nearest.proofs.Texts.{readings_more, no_readings}
 use Rattle.nearest.proofs.lines.readings.Goals as goal
 
-pub returns-in-default : goal.returns-in-default
-returns-in-default c = no_readings c.args.words.now _ c.loop-word.word-index c.loop-word-test.true (λ z w. c.in-default.ensures.value.0 (w.digits, w.fits))
+pub returns-in_default : goal.returns-in_default
+returns-in_default c = no_readings c.args.words.now _ c.loop-word.word-index c.loop-word-test.true (λ z w. c.in_default.ensures.value.0 (w.digits, w.fits))
 
 pub loop-word-preserved : goal.loop-word-preserved
 loop-word-preserved c =
     let r = c.in-Ok.ensures.value.0 in
     let f : SFits w32 c.in-Ok.reading = search rules in
     readings_more c.args.words.now _ c.loop-word.word-index c.loop-word-test.true (vec_items c.loop-word.readings) (vec_items c.push.new.self) c.in-Ok.reading _ c.loop-word.invariant
-    (record { digits = r.0.0; fits = r.0.1; is = r.1 }) (to_z-of_z w32 _ f) c.in-ok-push.ensures.items
+    (record { digits = r.0.0; fits = r.0.1; is = r.1 }) (to_z-of_z w32 _ f) c.in_ok-push.ensures.items
 
 pub returns : goal.returns
 returns c = rw (take_all c.loop-word.word-index c.args.words.now c.loop-word-test.false) at c.loop-word.invariant

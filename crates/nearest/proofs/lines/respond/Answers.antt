@@ -6,7 +6,7 @@ use Rattle.nearest.proofs.lines.respond.Goals as goal
 
 pub returns : goal.returns
 returns c =
-    let ws = map (λ (w : Bor (List ℕ)). w.now) (vec_items c.in-ok-words.words) in
-    let a = c.in-ok-answer.field-0 in
-    let h : Answers ws a = subst (λ (v : List (Bor (List ℕ))). Answers (map (λ w. w.now) v) a) c.deref.ensures.value c.in-ok-answer.ensures in
-    record { answers_the_words_of_the_line = IfOk-weaker c.text.result (λ s. string_bytes s ≡ answer_text a) (λ s. Responds c.args.line.now (string_bytes s)) (λ s e. (ws, a, c.in-ok-words.ensures, h, e)) c.text.ensures.is_the_text_of_the_answer }
+    let ws = map (λ (w : Bor (List ℕ)). w.now) (vec_items c.in_ok-words.words) in
+    let a = c.in_ok-answer.field-0 in
+    let h : Answers ws a = subst (λ (v : List (Bor (List ℕ))). Answers (map (λ w. w.now) v) a) c.deref.ensures.value c.in_ok-answer.ensures in
+    record { answers_the_words_of_the_line = IfOk-weaker c.text.result (λ s. string_bytes s ≡ answer_text a) (λ s. Responds c.args.line.now (string_bytes s)) (λ s e. (ws, a, c.in_ok-words.ensures, h, e)) c.text.ensures.is_the_text_of_the_answer }
