@@ -3,7 +3,7 @@ use Rattle.std.proofs.Common.{◌≡◌, ℕ, suc, ◌+◌, ◌-◌, ◌*◌, �
 use mathlib.Core.List.{map-append}
 use native.Mathlib.Nat.{mod-eq-sub-mod}
 use lib.Bits.{bit_or}
-use Rattle.std.specs.List.{AllByRecursion as All}
+use Rattle.std.specs.List.{AllByRecursion}
 use Rattle.std.proofs.lemmas.Nat.{one_shl, shl_whole, or_comm, or_shifted, shr_high, mod_low, div-mul-add, div-add-mod'}
 use Rattle.std.proofs.lemmas.List.{length-map}
 use Rattle.std.proofs.lemmas.Bool.{cases_lt, both_ways}
@@ -33,7 +33,7 @@ reverse_is n w h = ap (λ (v : ℕ). v - w) (all_ones n h)
 
 -- ---- a word of two halves of n cells
 
-module _ (n : ℕ) (ds es : List ℕ) (h : All Digit ds) (e : length ds ≡ n) where
+module _ (n : ℕ) (ds es : List ℕ) (h : AllByRecursion Digit ds) (e : length ds ≡ n) where
   below : word ds < 2 ^ n
   below = rw e at (word_below ds h)
 
@@ -107,7 +107,7 @@ module _ (m h : ℕ) (given : Half m h) where
     low_below = rw low_is (below h (row (m - 1) its.b) [] (row_digits (m - 1) its.b) (row_wide its.b))
 
     -- the digits of the upper half are es
-    join : (high : ℕ) (es : List ℕ) → All Digit es → length es ≡ h → high ≡ word es → row (suc (m - 1)) a ≡ row (m - 1) its.b ++ es → bit_or low ((high * 2 ^ h) % 2 ^ 32) ≡ row_word m a
+    join : (high : ℕ) (es : List ℕ) → AllByRecursion Digit es → length es ≡ h → high ≡ word es → row (suc (m - 1)) a ≡ row (m - 1) its.b ++ es → bit_or low ((high * 2 ^ h) % 2 ^ 32) ≡ row_word m a
     join high es d e i r =
         let b : high < 2 ^ h = rw i (below h es [] d e) in
         let k : h + h ≤ 32 = omega (arith, half_small) in
@@ -145,7 +145,7 @@ module _ (m h : ℕ) (given : Half m h) where
     abbrev Doubled : List ℕ → Type 0
     Doubled ds = (w ≡ word (ds ++ ds)) ⊎ (w ≡ word (ds ++ map reversed ds))
 
-    split : (ds : List ℕ) → All Digit ds → length ds ≡ h → Doubled ds → Split ds
+    split : (ds : List ℕ) → AllByRecursion Digit ds → length ds ≡ h → Doubled ds → Split ds
     split ds d e (inl i) =
         let l = ap (λ (v : ℕ). v % 2 ^ h) i ∙ low_part h ds ds d e in
         (l, inl (ap (λ (v : ℕ). v / 2 ^ h) i ∙ high_part h ds ds d e ∙ sym l))
@@ -153,7 +153,7 @@ module _ (m h : ℕ) (given : Half m h) where
         let l = ap (λ (v : ℕ). v % 2 ^ h) i ∙ low_part h ds (map reversed ds) d e in
         (l, inr (ap (λ (v : ℕ). v / 2 ^ h) i ∙ high_part h ds (map reversed ds) d e ∙ reversed_word ds h d e ∙ ap (λ (v : ℕ). 2 ^ h - 1 - v) (sym l)))
 
-    unsplit : (ds : List ℕ) → All Digit ds → length ds ≡ h → Split ds → Doubled ds
+    unsplit : (ds : List ℕ) → AllByRecursion Digit ds → length ds ≡ h → Split ds → Doubled ds
     unsplit ds d e (l, inl i) = inl (from_parts h ds ds d e w l (i ∙ l))
     unsplit ds d e (l, inr i) = inr (from_parts h ds (map reversed ds) d e w l (i ∙ ap (λ (v : ℕ). 2 ^ h - 1 - v) l ∙ sym (reversed_word ds h d e)))
 

@@ -3,7 +3,7 @@ use Rattle.std.specs.Prelude.{◌≡◌, ℕ, zero, suc, ◌+◌, ◌*◌, ◌/�
 use Rattle.std.proofs.Common.{sym, mul_left_comm, arith}
 use Rattle.std.proofs.Math.Nat.{pow-succ'}
 use Rattle.std.specs.Int.Count.{ones_step}
-use Rattle.std.specs.List.{AllByRecursion as All}
+use Rattle.std.specs.List.{AllByRecursion}
 use Rattle.std.proofs.lemmas.Nat.{shl_whole, or_comm, or_shifted}
 use Rattle.std.proofs.lemmas.List.{take_more, length-take-le}
 use Rattle.std.proofs.ByRecursion.{All-take, All-get_or}
@@ -18,11 +18,11 @@ pub reversed_digit : (d : ℕ) → Digit (reversed d)
 reversed_digit d = omega arith
 
 -- what a function makes of a list, where it always makes a digit
-pub map_digits : {X : Type 0} (f : X → ℕ) → ((x : X) → Digit (f x)) → (xs : List X) → All Digit (map f xs)
+pub map_digits : {X : Type 0} (f : X → ℕ) → ((x : X) → Digit (f x)) → (xs : List X) → AllByRecursion Digit (map f xs)
 map_digits f h [] = tt
 map_digits f h (x ∷ xs) = (h x, map_digits f h xs)
 
-pub word_below : (ds : List ℕ) → All Digit ds → word ds < 2 ^ length ds
+pub word_below : (ds : List ℕ) → AllByRecursion Digit ds → word ds < 2 ^ length ds
 word_below [] h = omega arith
 word_below (d ∷ ds) h = let a = h.0 in let b = word_below ds h.1 in rw (pow-succ' 2 (length ds)) (omega arith)
 
@@ -44,13 +44,13 @@ pub ones_cons : (d w : ℕ) → Digit d → count_ones (d + 2 * w) ≡ d + count
 ones_cons d w h = rw (ones_step (d + 2 * w), first_digit d w h, other_digits d w h)
 
 -- the digit at an index is that of the list
-pub word_digit : (ds : List ℕ) (i : ℕ) → All Digit ds → i < length ds → digit (word ds) i ≡ slice_index ds i
+pub word_digit : (ds : List ℕ) (i : ℕ) → AllByRecursion Digit ds → i < length ds → digit (word ds) i ≡ slice_index ds i
 word_digit [] i h k = absurd (omega arith)
 word_digit (d ∷ ds) zero h k = let a = h.0 in omega arith
 word_digit (d ∷ ds) (suc i) h k = rw (sym (half_above (d + 2 * word ds) i), other_digits d (word ds) h.0) (word_digit ds i h.1 (omega arith))
 
 -- one digit more, in a loop over the digits
-pub word_more : (ds : List ℕ) (i d : ℕ) → i < length ds → i < 32 → All Digit ds → d ≡ slice_index ds i → bit_or (word (take i ds)) ((d * 2 ^ i) % 2 ^ 32) ≡ word (take (i + 1) ds)
+pub word_more : (ds : List ℕ) (i d : ℕ) → i < length ds → i < 32 → AllByRecursion Digit ds → d ≡ slice_index ds i → bit_or (word (take i ds)) ((d * 2 ^ i) % 2 ^ 32) ≡ word (take (i + 1) ds)
 word_more ds i d here few h e =
     let k : i ≤ length ds = omega arith in
     let n = length-take-le i ds k in

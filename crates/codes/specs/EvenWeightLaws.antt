@@ -5,7 +5,7 @@ use Rattle.std.proofs.Common.{sym, ap, ap₂, ◌∙◌, inl, inr, arith, length
 use Rattle.std.proofs.Math.Nat.{pow-succ'}
 use Rattle.std.specs.Int.Bits.{differ, xor_step, xor_zero_r}
 use Rattle.std.specs.Int.Count.{ones_step}
-use Rattle.std.specs.List.{AllByRecursion as All}
+use Rattle.std.specs.List.{AllByRecursion}
 use Rattle.std.proofs.lemmas.Nat.{one_shl}
 use Rattle.std.proofs.ByRecursion.{All-weaker}
 use Rattle.std.proofs.lemmas.List.{length-map, get_or-map}
@@ -37,7 +37,7 @@ signed_other (suc (suc d)) g h o = absurd (omega arith)
 -- ---- words of the other parity
 
 -- no gain is smaller in size than m: then a word whose parity is not that of the signs loses at least twice m
-pub other_parity_loses : (m w : ℕ) (gs : List ℤ) → w < 2 ^ length gs → All (λ g. m ≤ unsigned_abs g) gs → (count_ones w % 2 ≢ count_ones (word (signs gs)) % 2) → (correlation w gs +ℤ pos (2 * m)) ≤ℤ pos (total gs)
+pub other_parity_loses : (m w : ℕ) (gs : List ℤ) → w < 2 ^ length gs → AllByRecursion (λ g. m ≤ unsigned_abs g) gs → (count_ones w % 2 ≢ count_ones (word (signs gs)) % 2) → (correlation w gs +ℤ pos (2 * m)) ≤ℤ pos (total gs)
 other_parity_loses m w [] b a o = let z : w ≡ 0 = omega arith in absurd (o (ap (λ (v : ℕ). count_ones v % 2) z))
 other_parity_loses m w (g ∷ gs) b a o = go (cases_eq (w % 2) (sign g)) (other_parity_loses m (w / 2) gs below a.1)
   where
@@ -55,7 +55,7 @@ other_parity_loses m w (g ∷ gs) b a o = go (cases_eq (w % 2) (sign g)) (other_
 
 -- ---- a cell reversed
 
-pub reversed_at_digits : (ds : List ℕ) (i : ℕ) → All Digit ds → i < length ds → All Digit (reversed_at ds i)
+pub reversed_at_digits : (ds : List ℕ) (i : ℕ) → AllByRecursion Digit ds → i < length ds → AllByRecursion Digit (reversed_at ds i)
 reversed_at_digits [] i h k = absurd (omega arith)
 reversed_at_digits (d ∷ ds) zero h k = (reversed_digit d, h.1)
 reversed_at_digits (d ∷ ds) (suc i) h k = (h.0, reversed_at_digits ds i h.1 (omega arith))
@@ -70,7 +70,7 @@ reversed_at_correlation (g ∷ gs) (suc i) k =
     let ih = reversed_at_correlation gs i (omega arith) in
     rw (correlation_cons (sign g) (word (reversed_at (signs gs) i)) g gs (sign_digit g), signed_own g) (omega (arith, ints))
 
-pub reversed_at_parity : (ds : List ℕ) (i : ℕ) → All Digit ds → i < length ds → count_ones (word (reversed_at ds i)) % 2 + count_ones (word ds) % 2 ≡ 1
+pub reversed_at_parity : (ds : List ℕ) (i : ℕ) → AllByRecursion Digit ds → i < length ds → count_ones (word (reversed_at ds i)) % 2 + count_ones (word ds) % 2 ≡ 1
 reversed_at_parity [] i h k = absurd (omega arith)
 reversed_at_parity (d ∷ ds) zero h k = let a = h.0 in omega (arith, ones_cons (reversed d) (word ds) (reversed_digit d), ones_cons d (word ds) a)
 reversed_at_parity (d ∷ ds) (suc i) h k = let a = h.0 in omega (arith, ones_cons d (word (reversed_at ds i)) a, ones_cons d (word ds) a, reversed_at_parity ds i h.1 (omega arith))
@@ -81,7 +81,7 @@ differs zero h = (refl, refl)
 differs (suc zero) h = (refl, refl)
 differs (suc (suc d)) h = absurd (omega arith)
 
-pub reversed_at_xor : (ds : List ℕ) (i : ℕ) → All Digit ds → i < length ds → bit_xor (word ds) (2 ^ i) ≡ word (reversed_at ds i)
+pub reversed_at_xor : (ds : List ℕ) (i : ℕ) → AllByRecursion Digit ds → i < length ds → bit_xor (word ds) (2 ^ i) ≡ word (reversed_at ds i)
 reversed_at_xor [] i h k = absurd (omega arith)
 reversed_at_xor (d ∷ ds) zero h k = rw (xor_step (d + 2 * word ds) 1, first_digit d (word ds) h.0, other_digits d (word ds) h.0, xor_zero_r (word ds), (differs d h.0).0) (omega arith)
 reversed_at_xor (d ∷ ds) (suc i) h k =
@@ -97,10 +97,10 @@ weakest_is gs h = first_best_is no_larger no_larger_total no_larger_chain 0 (map
 pub weakest_stands : (gs : List ℤ) → 1 ≤ length gs → weakest gs < length gs
 weakest_stands gs h = rw (length-map gs unsigned_abs) at (weakest_is gs h).stands
 
-none_is_weaker : (gs : List ℤ) → 1 ≤ length gs → All (λ g. unsigned_abs (slice_index_or gs (weakest gs) (pos 0)) ≤ unsigned_abs g) gs
+none_is_weaker : (gs : List ℤ) → 1 ≤ length gs → AllByRecursion (λ g. unsigned_abs (slice_index_or gs (weakest gs) (pos 0)) ≤ unsigned_abs g) gs
 none_is_weaker gs h =
     let m = unsigned_abs (slice_index_or gs (weakest gs) (pos 0)) in
-    let all : All (λ n. no_larger m n ≡ true) (map unsigned_abs gs) = rw (get_or-map unsigned_abs gs (weakest gs) (pos 0) 0 (weakest_stands gs h)) at (weakest_is gs h).none_is_better in
+    let all : AllByRecursion (λ n. no_larger m n ≡ true) (map unsigned_abs gs) = rw (get_or-map unsigned_abs gs (weakest gs) (pos 0) 0 (weakest_stands gs h)) at (weakest_is gs h).none_is_better in
     All-weaker (λ g. no_larger m (unsigned_abs g) ≡ true) (λ g. m ≤ unsigned_abs g) (λ g. leb-true m (unsigned_abs g)) gs (all_mapped (λ n. no_larger m n ≡ true) unsigned_abs gs all)
 
 -- ---- the pick

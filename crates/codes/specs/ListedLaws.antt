@@ -1,7 +1,7 @@
 -- The laws of listed words.
 use Rattle.std.specs.Prelude.{◌≡◌, ℕ, ◌-◌, ◌^◌, ◌<◌, ◌≤◌, Bool, true, List, [], ◌∷◌, map, length, take, ℤ, pos, ◌≤ℤ◌, Ok, Err, Decides, Result, nat_eq, nat_le, nat_lt, slice_index_or}
 use Rattle.std.proofs.Common.{sym, ap, arith}
-use Rattle.std.specs.List.{IsAnyAnswer, ContainsAt as Has, AllByRecursion as All}
+use Rattle.std.specs.List.{IsAnyAnswer, ContainsAt as Has, AllByRecursion}
 use Rattle.std.proofs.lemmas.List.Elements.{contains_decides}
 use Rattle.std.proofs.ByRecursion.{all-has, has_get_or}
 use Rattle.std.proofs.lemmas.List.{length-map, length-take-le, get_or-map}
@@ -21,7 +21,7 @@ use Rattle.finders.proofs.Within.{range}
 use Rattle.codes.specs.CodeLaws.{code_laws}
 use Rattle.std.proofs.lemmas.Bool.Decides.{Decides-eqb}
 
-all_below : (n : ℕ) (ws : List ℕ) → as_wide n ws ≡ true → All (λ w. w < 2 ^ n) ws
+all_below : (n : ℕ) (ws : List ℕ) → as_wide n ws ≡ true → AllByRecursion (λ w. w < 2 ^ n) ws
 all_below n [] h = tt
 all_below n (w ∷ ws) h = let p = and_parts (nat_lt w (2 ^ n)) (as_wide n ws) h in (ltb-true w (2 ^ n) p.0, all_below n ws p.1)
 
@@ -44,7 +44,7 @@ module _ (ws : List ℕ) (some : 1 ≤ length ws) (gs : List ℤ) where
   pub none_listed_is_better : (w : ℕ) → Has ws w → correlation w gs ≤ℤ correlation (first_listed ws gs) gs
   none_listed_is_better w h =
       let best = correlation (first_listed ws gs) gs in
-      let none : All (λ z. no_less best z ≡ true) (scores ws gs) = rw (score_of_first ws gs first_is.stands) at first_is.none_is_better in
+      let none : AllByRecursion (λ z. no_less best z ≡ true) (scores ws gs) = rw (score_of_first ws gs first_is.stands) at first_is.none_is_better in
       (great_decides best (correlation w gs)).0 (all-has (λ v. no_less best (correlation v gs) ≡ true) ws w (all_mapped (λ z. no_less best z ≡ true) (λ v. correlation v gs) ws none) h)
 
 pub listed_laws : (n : ℕ) (ws : List ℕ) → in_range n ≡ true → 1 ≤ length ws → as_wide n ws ≡ true → WordLaws (listed_fit n ws)
@@ -61,7 +61,7 @@ listed_lawful (Ok t) =
 listed_lawful (Err e) = tt
 
 -- a word is tested: it has passed the check, and b tells whether the list has it
-pub tells_listed : (r : Result Table Refusal) (t : Table) (s : WordShape) (w : ℕ) (b : Bool) → r ≡ Ok t → Ok s ≡ shape_of (listed_in r) → Ok tt ≡ test_checked s.width w → IsAnyAnswer (λ y x. Decides x (y ≡ w)) (take (t.count - 0) t.words) b → Contains (listed_in r) w (Ok b)
+pub tells_listed : (r : Result Table Refusal) (t : Table) (s : WordShape) (w : ℕ) (b : Bool) → r ≡ Ok t → Ok s ≡ shape_of (listed_in r) → Ok tt ≡ test_checked s.width w → IsAnyAnswer (λ y x. nat_eq y w ≡ x) (take (t.count - 0) t.words) b → Contains (listed_in r) w (Ok b)
 tells_listed r t s w b e shape passed found =
     let z : t.count - 0 ≡ t.count = omega arith in
     let at_t : Ok s ≡ shape_of (listed_in (Ok t)) = rw e at shape in

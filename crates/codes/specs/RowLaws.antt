@@ -5,7 +5,7 @@ use Rattle.std.proofs.Math.Nat.{pow-succ'}
 use Rattle.std.proofs.lemmas.Nat.{and_block, ones_cat}
 use Rattle.std.specs.Int.Bits.{and_lt}
 use Rattle.std.specs.Int.Count.{ones-ones}
-use Rattle.std.specs.List.{AllByRecursion as All}
+use Rattle.std.specs.List.{AllByRecursion}
 use Rattle.std.proofs.lemmas.List.{length-map, get_or-map, map-append}
 use Rattle.finders.specs.Words.{digit}
 use Rattle.codes.specs.Digits.{word, reversed}
@@ -52,7 +52,7 @@ module _ {X : Type 0} where
 parity_digit : (a i : ℕ) → Digit (parity a i)
 parity_digit a i = mod-lt (count_ones (bit_and a i)) (omega arith)
 
-pub row_digits : (m a : ℕ) → All Digit (row m a)
+pub row_digits : (m a : ℕ) → AllByRecursion Digit (row m a)
 row_digits m a = map_digits (parity a) (parity_digit a) (from 0 (2 ^ m))
 
 pub length_row : (m a : ℕ) → length (row m a) ≡ 2 ^ m
@@ -60,14 +60,14 @@ length_row m a = length-map (from 0 (2 ^ m)) (parity a) ∙ length_from 0 (2 ^ m
 
 -- ---- all digits reversed
 
-pub reversed_digits : (ds : List ℕ) → All Digit (map reversed ds)
+pub reversed_digits : (ds : List ℕ) → AllByRecursion Digit (map reversed ds)
 reversed_digits ds = map_digits reversed reversed_digit ds
 
-reversed_adds : (ds : List ℕ) → All Digit ds → word (map reversed ds) + word ds + 1 ≡ 2 ^ length ds
+reversed_adds : (ds : List ℕ) → AllByRecursion Digit ds → word (map reversed ds) + word ds + 1 ≡ 2 ^ length ds
 reversed_adds [] h = omega arith
 reversed_adds (d ∷ ds) h = let a = h.0 in rw (pow-succ' 2 (length ds)) (omega (arith, reversed_adds ds h.1))
 
-pub reversed_word : (ds : List ℕ) (n : ℕ) → All Digit ds → length ds ≡ n → word (map reversed ds) ≡ 2 ^ n - 1 - word ds
+pub reversed_word : (ds : List ℕ) (n : ℕ) → AllByRecursion Digit ds → length ds ≡ n → word (map reversed ds) ≡ 2 ^ n - 1 - word ds
 reversed_word ds n h e = rw (sym e) (omega (arith, reversed_adds ds h))
 
 -- ---- twice the cells

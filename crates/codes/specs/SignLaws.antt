@@ -2,7 +2,7 @@
 use Rattle.std.specs.Prelude.{◌≡◌, ℕ, ◌+◌, ◌*◌, ◌/◌, ◌%◌, ◌^◌, ◌<◌, true, false, cond, List, [], ◌∷◌, ◌++◌, length, take, ℤ, pos, negsuc, neg_ℤ, ◌≤ℤ◌, ◌==◌, bit_or, int_lt, slice_index_or, unsigned_abs, refl}
 use Rattle.std.proofs.Common.{sym, ap, ◌∙◌, arith}
 use mir.Val.{bool_byte}
-use Rattle.std.specs.List.{AllByRecursion as All}
+use Rattle.std.specs.List.{AllByRecursion}
 use Rattle.std.proofs.lemmas.List.{take_more, length-map, get_or-map}
 use Rattle.std.proofs.lemmas.Int.{ints}
 use Rattle.std.proofs.lemmas.Bool.{le-ltb}
@@ -20,7 +20,7 @@ pub sign_digit : (g : ℤ) → Digit (sign g)
 sign_digit (pos n) = omega arith
 sign_digit (negsuc n) = omega arith
 
-pub signs_digits : (gs : List ℤ) → All Digit (signs gs)
+pub signs_digits : (gs : List ℤ) → AllByRecursion Digit (signs gs)
 signs_digits gs = map_digits sign sign_digit gs
 
 pub signs_below : (gs : List ℤ) → word (signs gs) < 2 ^ length gs

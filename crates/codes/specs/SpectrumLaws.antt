@@ -2,7 +2,7 @@
 use Rattle.std.specs.Prelude.{◌≡◌, ℕ, zero, suc, ◌+◌, ◌^◌, ◌<◌, ◌≤◌, true, List, [], ◌∷◌, ◌++◌, map, length, ℤ, ◌+ℤ◌, ◌-ℤ◌, neg_ℤ, unsigned_abs, refl}
 use Rattle.std.proofs.Common.{sym, ap, ap₂, ◌∙◌, arith, pow_mono}
 use Rattle.std.proofs.Math.IntN.{+ℤ_idl, +ℤ_idr}
-use Rattle.std.specs.List.{AllByRecursion as All}
+use Rattle.std.specs.List.{AllByRecursion}
 use Rattle.std.proofs.lemmas.List.{length-map}
 use Rattle.std.proofs.lemmas.Int.{ints}
 use Rattle.std.proofs.lemmas.Bool.{le-leb}
@@ -18,7 +18,7 @@ use Rattle.codes.specs.RowLaws.{length_from, map_from_halves, row_digits, length
 
 -- ---- correlations by digits
 
-pub correlation_append : (ds es : List ℕ) (xs ys : List ℤ) → All Digit ds → length ds ≡ length xs → correlation (word (ds ++ es)) (xs ++ ys) ≡ correlation (word ds) xs +ℤ correlation (word es) ys
+pub correlation_append : (ds es : List ℕ) (xs ys : List ℤ) → AllByRecursion Digit ds → length ds ≡ length xs → correlation (word (ds ++ es)) (xs ++ ys) ≡ correlation (word ds) xs +ℤ correlation (word es) ys
 correlation_append [] es [] ys h e = sym (+ℤ_idl (correlation (word es) ys))
 correlation_append [] es (x ∷ xs) ys h e = absurd (omega arith)
 correlation_append (d ∷ ds) es [] ys h e = absurd (omega arith)
@@ -30,7 +30,7 @@ signed_reversed zero g h = refl
 signed_reversed (suc zero) g h = omega (arith, ints)
 signed_reversed (suc (suc d)) g h = absurd (omega arith)
 
-pub correlation_reversed : (ds : List ℕ) (gs : List ℤ) → All Digit ds → length ds ≡ length gs → correlation (word (map reversed ds)) gs ≡ neg_ℤ (correlation (word ds) gs)
+pub correlation_reversed : (ds : List ℕ) (gs : List ℤ) → AllByRecursion Digit ds → length ds ≡ length gs → correlation (word (map reversed ds)) gs ≡ neg_ℤ (correlation (word ds) gs)
 correlation_reversed [] [] h e = refl
 correlation_reversed [] (g ∷ gs) h e = absurd (omega arith)
 correlation_reversed (d ∷ ds) [] h e = absurd (omega arith)

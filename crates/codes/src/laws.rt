@@ -1,5 +1,5 @@
 ghost use Rattle.std.specs.Prelude.{◌≡◌, ℕ, ◌^◌, ◌<◌, ◌≤◌, List, map, length, ℤ, pos, ◌≤ℤ◌, slice_index, slice_index_or, unsigned_abs};
-ghost use Rattle.std.specs.List.{ContainsAt as Has, AllByRecursion as All};
+ghost use Rattle.std.specs.List.{ContainsAt as Has, AllByRecursion};
 ghost use Rattle.finders.specs.Choice.{IsFirst, first_best, no_larger, no_less, no_smaller};
 ghost use Rattle.finders.specs.Words.{digit, correlation};
 ghost use Rattle.codes.specs.Digits.{word, reversed};
@@ -12,8 +12,8 @@ ghost use Rattle.codes.specs.ReedMuller.{parity, row_word, complement, spectrum,
 
 // The word of a list of digits has just these digits, and none beyond.
 pub fn a_word_has_its_digits()
-    ensures has_these_digits { (ds : List ℕ) (i : ℕ) → All (λ d. d < 2) ds → i < length ds → digit (word ds) i ≡ slice_index ds i }
-    ensures has_none_beyond { (ds : List ℕ) → All (λ d. d < 2) ds → word ds < 2 ^ length ds }
+    ensures has_these_digits { (ds : List ℕ) (i : ℕ) → AllByRecursion (λ d. d < 2) ds → i < length ds → digit (word ds) i ≡ slice_index ds i }
+    ensures has_none_beyond { (ds : List ℕ) → AllByRecursion (λ d. d < 2) ds → word ds < 2 ^ length ds }
 {}
 
 // The weakest cell is one of the group, no gain is smaller in size than its own, and all earlier ones are larger.

@@ -1,6 +1,6 @@
 -- One more offer: what is held is still the first best.
 use Rattle.std.proofs.Common.{◌≡◌, ◌⊎◌, List, [], ◌∷◌, ◌++◌, Some, None, Option, sym, refl, ap, ◌∙◌, subst, inl, inr, append_assoc}
-use Rattle.std.specs.List.{AllByRecursion as All}
+use Rattle.std.specs.List.{AllByRecursion}
 use Rattle.std.proofs.ByRecursion.{All-append, All-weaker}
 use Rattle.finders.specs.Choice.{IsFirstBest, Chosen}
 
@@ -14,17 +14,17 @@ module _ {S : Type 0} (good : S → S → Type 0) (total : (a b : S) → good a 
     earlier = offers;
     later = [];
     stands = refl;
-    earlier_are_worse = subst (All Worse) (sym f.stands) (All-append Worse f.earlier (b ∷ f.later) before (n, after));
+    earlier_are_worse = subst (AllByRecursion Worse) (sym f.stands) (All-append Worse f.earlier (b ∷ f.later) before (n, after));
     later_are_no_better = tt;
   }
     where
       Worse : C × S → Type 0
       Worse y = good y.1 x.1 → ⊥
 
-      before : All Worse f.earlier
+      before : AllByRecursion Worse f.earlier
       before = All-weaker (λ y. good y.1 b.1 → ⊥) Worse (λ y w g. n (chain b.1 y.1 x.1 (from_worse y.1 b.1 w) g)) f.earlier f.earlier_are_worse
 
-      after : All Worse f.later
+      after : AllByRecursion Worse f.later
       after = All-weaker (λ y. good b.1 y.1) Worse (λ y w g. n (chain b.1 y.1 x.1 w g)) f.later f.later_are_no_better
 
   -- nothing that is held is at least as good: the new one is held

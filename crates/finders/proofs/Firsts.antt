@@ -1,23 +1,23 @@
 -- The index of the first best of a list: what makes it right, and that the choice of the first best finds it.
 use Rattle.std.proofs.Common.{◌≡◌, ℕ, suc, ◌+◌, ◌<◌, ◌≤◌, Bool, true, false, ◌⊎◌, List, [], ◌∷◌, ◌++◌, map, length, get_or, take, Decides, sym, refl, ap, ◌∙◌, ap₂, inl, inr, arith}
-use Rattle.std.specs.List.{AllByRecursion as All}
+use Rattle.std.specs.List.{AllByRecursion}
 use Rattle.std.proofs.lemmas.List.{length-take-le, take_more}
 use Rattle.std.proofs.lemmas.Bool.{and_parts, both_ways}
 use Rattle.finders.specs.Choice.{IsFirstBest, as_good_as, first_best, IsFirst}
 
 module _ {A : Type 0} (good : A → A → Bool) where
-  as_good_all : (a : A) (xs : List A) → as_good_as good a xs ≡ true → All (λ b. good a b ≡ true) xs
+  as_good_all : (a : A) (xs : List A) → as_good_as good a xs ≡ true → AllByRecursion (λ b. good a b ≡ true) xs
   as_good_all a [] h = tt
   as_good_all a (b ∷ xs) h = let p = and_parts (good a b) (as_good_as good a xs) h in (p.0, as_good_all a xs p.1)
 
-  all_as_good : (a : A) (xs : List A) → All (λ b. good a b ≡ true) xs → as_good_as good a xs ≡ true
+  all_as_good : (a : A) (xs : List A) → AllByRecursion (λ b. good a b ≡ true) xs → as_good_as good a xs ≡ true
   all_as_good a [] h = refl
   all_as_good a (b ∷ xs) h = rw (h.0, all_as_good a xs h.1)
 
   -- ---- what makes `first_best` right, where the order is total and carries along a chain
 
   module _ (total : (a b : A) → (good a b ≡ true) ⊎ (good b a ≡ true)) (chain : (a b c : A) → good a b ≡ true → good b c ≡ true → good a c ≡ true) where
-    all_chain : (a b : A) (xs : List A) → good a b ≡ true → All (λ c. good b c ≡ true) xs → All (λ c. good a c ≡ true) xs
+    all_chain : (a b : A) (xs : List A) → good a b ≡ true → AllByRecursion (λ c. good b c ≡ true) xs → AllByRecursion (λ c. good a c ≡ true) xs
     all_chain a b [] g h = tt
     all_chain a b (c ∷ xs) g h = (chain a b c g h.0, all_chain a b xs g h.1)
 
@@ -61,7 +61,7 @@ pub map_none : {A B : Type 0} (f : A → B) (xs : List A) → map f xs ≡ [] �
 map_none f [] e = refl
 map_none f (x ∷ xs) e = absurd (no_offer (sym e))
 
-pub all_mapped : {A B : Type 0} (P : B → Type 0) (f : A → B) (xs : List A) → All P (map f xs) → All (λ a. P (f a)) xs
+pub all_mapped : {A B : Type 0} (P : B → Type 0) (f : A → B) (xs : List A) → AllByRecursion P (map f xs) → AllByRecursion (λ a. P (f a)) xs
 all_mapped P f [] h = tt
 all_mapped P f (x ∷ xs) h = (h.0, all_mapped P f xs h.1)
 
@@ -87,7 +87,7 @@ module _ {A C S : Type 0} (candidate : ℕ → A → C) (score : A → S) where
     abbrev At : ℕ → List A → C × S → Type 0
     At k xs b = (first_best good xs < length xs) × (b.0 ≡ candidate (k + first_best good xs) (get_or xs (first_best good xs) d)) × (b.1 ≡ score (get_or xs (first_best good xs) d))
 
-    no_better : (a : A) (k : ℕ) (xs : List A) → All (λ x. Good (score a) x.1) (offered candidate score k xs) → as_good_as good a xs ≡ true
+    no_better : (a : A) (k : ℕ) (xs : List A) → AllByRecursion (λ x. Good (score a) x.1) (offered candidate score k xs) → as_good_as good a xs ≡ true
     no_better a k [] h = refl
     no_better a k (b ∷ xs) h = rw ((decides a b).1 h.0, no_better a (suc k) xs h.1)
 
@@ -102,7 +102,7 @@ module _ {A C S : Type 0} (candidate : ℕ → A → C) (score : A → S) where
         let t : offered candidate score (suc k) xs ≡ es ++ b ∷ later = cc in
         beaten a (suc k) xs es later b t n (and_parts (good a c) (as_good_as good a xs) g).1
 
-    at : (k : ℕ) (xs : List A) (es later : List (C × S)) (b : C × S) → offered candidate score k xs ≡ es ++ b ∷ later → All (λ x. Good x.1 b.1 → ⊥) es → All (λ x. Good b.1 x.1) later → At k xs b
+    at : (k : ℕ) (xs : List A) (es later : List (C × S)) (b : C × S) → offered candidate score k xs ≡ es ++ b ∷ later → AllByRecursion (λ x. Good x.1 b.1 → ⊥) es → AllByRecursion (λ x. Good b.1 x.1) later → At k xs b
     at k [] [] later b e w l = absurd (no_offer e)
     at k [] (x ∷ es) later b e w l = absurd (no_offer e)
     at k (a ∷ xs) [] later b e w l =

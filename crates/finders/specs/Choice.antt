@@ -1,14 +1,14 @@
 -- The first best of what was offered, and of a list of scores.
 use Rattle.std.specs.Prelude.{◌≡◌, ℕ, suc, ◌<◌, Bool, true, false, cond, ◌&&◌, List, [], ◌∷◌, ◌++◌, length, take, ℤ, Some, None, Option, int_le, nat_le, slice_index_or}
-use Rattle.std.specs.List.{AllByRecursion as All}
+use Rattle.std.specs.List.{AllByRecursion}
 
 -- b stands in the list; all before it are worse, and none after it is better
 pub record IsFirstBest {C S : Type 0} (at_least : S → S → Type 0) (offers : List (C × S)) (b : C × S) : Type 0 where
   pub earlier : List (C × S)
   pub later : List (C × S)
   pub stands : offers ≡ earlier ++ b ∷ later
-  pub earlier_are_worse : All (λ x. at_least x.1 b.1 → ⊥) earlier
-  pub later_are_no_better : All (λ x. at_least b.1 x.1) later
+  pub earlier_are_worse : AllByRecursion (λ x. at_least x.1 b.1 → ⊥) earlier
+  pub later_are_no_better : AllByRecursion (λ x. at_least b.1 x.1) later
 
 -- what is held after these offers: nothing where there was none
 abbrev pub Chosen : {C S : Type 0} → (S → S → Type 0) → List (C × S) → Option (C × S) → Type 0
@@ -30,8 +30,8 @@ first_best good (a ∷ xs) = cond (as_good_as good a xs) 0 (suc (first_best good
 -- i is an index of the list, what stands there is at least as good as all, and all before it are worse; d is any value
 pub record IsFirst {A : Type 0} (good : A → A → Bool) (d : A) (xs : List A) (i : ℕ) : Type 0 where
   pub stands : i < length xs
-  pub none_is_better : All (λ a. good (slice_index_or xs i d) a ≡ true) xs
-  pub earlier_are_worse : All (λ a. good a (slice_index_or xs i d) ≡ false) (take i xs)
+  pub none_is_better : AllByRecursion (λ a. good (slice_index_or xs i d) a ≡ true) xs
+  pub earlier_are_worse : AllByRecursion (λ a. good a (slice_index_or xs i d) ≡ false) (take i xs)
 
 -- the tests for the largest, the smallest, and the greatest of signed numbers
 abbrev pub no_smaller : ℕ → ℕ → Bool

@@ -1,6 +1,6 @@
 -- The first largest number, and that the choice of the first best finds it.
 use Rattle.std.proofs.Common.{◌≡◌, ℕ, suc, ◌+◌, ◌<◌, ◌≤◌, max, Bool, true, false, leb, List, [], ◌∷◌, ◌++◌, map, length, get_or, take, ℤ, pos, ◌≤ℤ◌, sym, refl, ap, ◌∙◌, inl, inr, arith}
-use Rattle.std.specs.List.{AllByRecursion as All}
+use Rattle.std.specs.List.{AllByRecursion}
 use Rattle.std.proofs.lemmas.List.{length-map, length-take-le, map_more}
 use Rattle.std.proofs.lemmas.Bool.{leb-true, leb-false, le-leb, lt-leb, cases_lt}
 use borrow.Author.Differences.{ints}
@@ -10,16 +10,16 @@ use Rattle.lattices.specs.LatticeD.{largest, first_largest, IsFirstLargest}
 
 -- ---- what makes `first_largest` right
 
-largest_bounds : (ns : List ℕ) (m : ℕ) → largest ns ≤ m → All (λ n. n ≤ m) ns
+largest_bounds : (ns : List ℕ) (m : ℕ) → largest ns ≤ m → AllByRecursion (λ n. n ≤ m) ns
 largest_bounds [] m h = tt
 largest_bounds (n ∷ ns) m h = (omega arith, largest_bounds ns m (omega arith))
 
 record Stands (ns : List ℕ) : Type 0 where
   at : first_largest ns < length ns
   is : get_or ns (first_largest ns) 0 ≡ largest ns
-  before : All (λ n. n < largest ns) (take (first_largest ns) ns)
+  before : AllByRecursion (λ n. n < largest ns) (take (first_largest ns) ns)
 
-all_weaker : (ns : List ℕ) (a b : ℕ) → a ≡ b → All (λ n. n < a) ns → All (λ n. n < b) ns
+all_weaker : (ns : List ℕ) (a b : ℕ) → a ≡ b → AllByRecursion (λ n. n < a) ns → AllByRecursion (λ n. n < b) ns
 all_weaker ns a b e h = rw (sym e) h
 
 stands : (ns : List ℕ) → 1 ≤ length ns → Stands ns
@@ -65,11 +65,11 @@ under_largest k (n ∷ ns) [] later b e = let h : (k, record { 0 = pos n }) ≡ 
 under_largest k (n ∷ ns) (x ∷ es) later b e = let t : offered (suc k) ns ≡ es ++ b ∷ later = cc in let u = under_largest (suc k) ns es later b t in omega (arith, ints)
 
 -- what is no better than n is no larger
-all_under : (k n : ℕ) (ns : List ℕ) → All (λ x. x.1.0 ≤ℤ pos n) (offered k ns) → largest ns ≤ n
+all_under : (k n : ℕ) (ns : List ℕ) → AllByRecursion (λ x. x.1.0 ≤ℤ pos n) (offered k ns) → largest ns ≤ n
 all_under k n [] h = omega arith
 all_under k n (m ∷ ns) h = let a = h.0 in let b = all_under (suc k) n ns h.1 in omega (arith, ints)
 
-first_best : (k : ℕ) (ns : List ℕ) (earlier later : List (ℕ × Greatest)) (b : ℕ × Greatest) → offered k ns ≡ earlier ++ b ∷ later → All (λ x. at_least x.1 b.1 → ⊥) earlier → All (λ x. at_least b.1 x.1) later → b.0 ≡ k + first_largest ns
+first_best : (k : ℕ) (ns : List ℕ) (earlier later : List (ℕ × Greatest)) (b : ℕ × Greatest) → offered k ns ≡ earlier ++ b ∷ later → AllByRecursion (λ x. at_least x.1 b.1 → ⊥) earlier → AllByRecursion (λ x. at_least b.1 x.1) later → b.0 ≡ k + first_largest ns
 first_best k [] [] later b e w l = absurd (no_offer e)
 first_best k [] (x ∷ es) later b e w l = absurd (no_offer e)
 first_best k (n ∷ ns) [] later b e w l =

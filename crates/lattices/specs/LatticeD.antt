@@ -1,6 +1,6 @@
 -- The lattice D: the points with an even sum.
 use Rattle.std.specs.Prelude.{◌≡◌, ℕ, suc, ◌%◌, ◌<◌, ◌≤◌, max, cond, List, [], ◌∷◌, map, length, take, ℤ, pos, ◌==◌, nat_le, slice_index, slice_index_or, slice_set, unsigned_abs}
-use Rattle.std.specs.List.{AllByRecursion as All}
+use Rattle.std.specs.List.{AllByRecursion}
 use Rattle.integers.specs.Nearest.{nearest, residue}
 use Rattle.integers.specs.Sums.{sumℤ}
 use Rattle.finders.specs.Meanings.{Meaning}
@@ -25,8 +25,8 @@ first_largest (n ∷ ns) = cond (nat_le (largest ns) n) 0 (suc (first_largest ns
 -- what makes it right
 pub record IsFirstLargest (ns : List ℕ) (i : ℕ) : Type 0 where
   pub stands : i < length ns
-  pub none_is_larger : All (λ n. n ≤ slice_index ns i) ns
-  pub earlier_are_smaller : All (λ n. n < slice_index ns i) (take i ns)
+  pub none_is_larger : AllByRecursion (λ n. n ≤ slice_index ns i) ns
+  pub earlier_are_smaller : AllByRecursion (λ n. n < slice_index ns i) (take i ns)
 
 -- the size of the residue that rounding leaves of a reading
 abbrev pub left_over : ℕ → ℤ → ℕ

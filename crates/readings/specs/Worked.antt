@@ -1,6 +1,6 @@
 -- Readings worked out by hand, all at the step 10.
 use Rattle.std.specs.Prelude.{◌≡◌, ℕ, List, [], ◌∷◌, length, ℤ, pos, negsuc, Ok}
-use Rattle.std.specs.List.{AllByRecursion as All}
+use Rattle.std.specs.List.{AllByRecursion}
 use Rattle.integers.specs.Nearest.{nearest}
 use Rattle.finders.specs.PointFinders.{find_answer, find_place}
 use Rattle.finders.specs.Rounding.{turned}
@@ -37,4 +37,4 @@ worked =
     ∷ []
 
 abbrev pub AllHold : Type 0
-AllHold = All Holds worked
+AllHold = AllByRecursion Holds worked

@@ -12,7 +12,7 @@ pub loop-i-preserved : goal.loop-i-preserved
 loop-i-preserved c = copied_more c.args.width c.loop-i.i c.args.words.now c.loop-i.table c.if-width-lt1.false c.if-width-gt-MOST_CELLS.false c.if-count-lt1.false c.if-count-gt-MOST_WORDS.false c.loop-i.invariant c.loop-i-test.true c.if-has_digit_beyond.ensures.tells_whether_a_digit_is_beyond
 
 pub invariant_of-result : goal.invariant_of-result
-invariant_of-result c = let f = all_copied c in (f.sized, (f.counted, (f.held, (f.fitting, tt))))
+invariant_of-result c = let f = all_copied c in record { sized = f.sized; counted = f.counted; held = f.held; fitting = f.fitting }
 
 pub returns : goal.returns
 returns c = (all_copied (goal.at.returns c).After-loop-i).means
