@@ -7,9 +7,8 @@ ghost use Rattle.codes.specs.ListedLaws.{listed_lawful};
 
 use super::table::Table;
 use finders::choice::{FirstBest, Greatest};
-use finders::words::MOST_GAIN;
 use finders::refusals::Refusal;
-use finders::words::{WordFinder, WordShape, WordTester};
+use finders::words::{MOST_GAIN, WordFinder, WordShape, WordTester};
 
 mod build;
 

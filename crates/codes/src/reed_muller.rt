@@ -8,9 +8,8 @@ ghost use Rattle.codes.specs.ReedMullerLaws.{reed_muller_lawful};
 use super::transform::transform;
 use finders::choice::{FirstBest, Greatest};
 use finders::points::MOST_CELLS;
-use finders::words::MOST_GAIN;
 use finders::refusals::Refusal;
-use finders::words::{WordFinder, WordShape, WordTester};
+use finders::words::{MOST_GAIN, WordFinder, WordShape, WordTester};
 
 mod build;
 

@@ -2,9 +2,8 @@ ghost use Rattle.std.specs.Prelude.{◌≡◌};
 ghost use Rattle.codes.specs.Codes.{code_shape};
 
 use finders::points::MOST_CELLS;
-use finders::words::MOST_GAIN;
 use finders::refusals::Refusal;
-use finders::words::WordShape;
+use finders::words::{MOST_GAIN, WordShape};
 
 // The shape of a code of so many cells.
 pub(super) fn shape_of(width: usize) -> Result<WordShape, Refusal>

@@ -16,7 +16,7 @@ returns-in_default c = told_none c.args.words.now c.args.lattice (search rules)
 pub returns-in-Some : goal.returns-in-Some
 returns-in-Some c =
     let some : 1 ≤ length c.args.words.now = search rules in
-    let step = c.in-Ok.ensures.reads.0 in
+    let step = c.in-Ok.ensures.value.0 in
     let rs = c.deref.result.now in
     let read : Readings (behind c.args.words.now) rs = subst (Readings (behind c.args.words.now)) (sym c.deref.ensures.value)
     (MatchOption-at_some ((zs : List ℤ) → Readings (behind c.args.words.now) zs → ⊥) (λ v. Readings (behind c.args.words.now) (vec_items v)) c.in-Some.readings c.in-Some.is c.in_ok-readings.ensures) in

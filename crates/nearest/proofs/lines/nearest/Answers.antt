@@ -7,10 +7,10 @@ use Rattle.nearest.proofs.lines.nearest.Goals as goal
 
 pub returns-in-Ok : goal.returns-in-Ok
 returns-in-Ok c =
-    let room : length c.deref-mut.result.now ≡ length c.args.readings.now = omega (arith, c.deref-mut.ensures.len, c.in_ok-point.ensures.len) in
-    found_nearest c.args.readings.now c.args.step c.deref-mut.result.now room (meaning_of c.args.lattice (length c.args.readings.now)) c.find.new.place (with_items c.in_ok-point.point c.find.new.place) c.in-Ok.distance c.in-Ok.ensures.answers_the_distance c.in-Ok.ensures.writes_the_pick (with_items_is c.in_ok-point.point c.find.new.place (search rules))
+    let room : length c.deref_mut.result.now ≡ length c.args.readings.now = omega (arith, c.deref_mut.ensures.len, c.in_ok-point.ensures.len) in
+    found_nearest c.args.readings.now c.args.step c.deref_mut.result.now room (meaning_of c.args.lattice (length c.args.readings.now)) c.find.new.place (with_items c.in_ok-point.point c.find.new.place) c.in-Ok.distance c.in-Ok.ensures.answers_the_distance c.in-Ok.ensures.writes_the_pick (with_items_is c.in_ok-point.point c.find.new.place (search rules))
 
 pub returns-in-Err : goal.returns-in-Err
 returns-in-Err c =
-    let room : length c.deref-mut.result.now ≡ length c.args.readings.now = omega (arith, c.deref-mut.ensures.len, c.in_ok-point.ensures.len) in
-    found_refused c.args.readings.now c.args.step c.deref-mut.result.now room (meaning_of c.args.lattice (length c.args.readings.now)) c.in-Err.refusal c.in-Err.ensures.answers_the_distance
+    let room : length c.deref_mut.result.now ≡ length c.args.readings.now = omega (arith, c.deref_mut.ensures.len, c.in_ok-point.ensures.len) in
+    found_refused c.args.readings.now c.args.step c.deref_mut.result.now room (meaning_of c.args.lattice (length c.args.readings.now)) c.in-Err.refusal c.in-Err.ensures.answers_the_distance

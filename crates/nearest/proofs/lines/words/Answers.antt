@@ -4,7 +4,7 @@ use Rattle.nearest.proofs.Texts.{words_start, words_more, words_end}
 use Rattle.nearest.proofs.lines.words.Goals as goal
 
 pub loop-word-init : goal.loop-word-init
-loop-word-init c = words_start c.args.line.now _ _ c.new-words.ensures.items (ap split_whitespace_rest c.into-iter-word-iterator.ensures.into-iter-gives ∙ c.split_whitespace-word-items.ensures.rest)
+loop-word-init c = words_start c.args.line.now _ _ c.new-words.ensures.items (ap split_whitespace_rest c.into_iter-word-iterator.ensures.into_iter_gives ∙ c.split_whitespace-word-items.ensures.rest)
 
 pub loop-word-preserved : goal.loop-word-preserved
 loop-word-preserved c = words_more c.args.line.now _ _ c.in-Some.word _ _ c.in_ok-push.ensures.items c.in-Some.ensures.steps c.loop-word.invariant
