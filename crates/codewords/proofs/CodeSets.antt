@@ -1,0 +1,46 @@
+-- The codes: they keep their laws, and what is found in them has the greatest correlation.
+use Rattle.std.proofs.Common.{◌≡◌, ℕ, leb, List, length, ℤ, Result, ◌∙◌}
+use Rattle.std.proofs.lemmas.Bool.{and_parts, leb-true}
+use Rattle.finders.specs.declared.refusals.Refusal.{Refusal}
+use Rattle.finders.specs.declared.refusals.Refusal.TheVariants.{Width, WordCount, Entry}
+use Rattle.finders.specs.Meanings.{Meaning}
+use Rattle.finders.specs.Sizes.{in_range}
+use Rattle.finders.specs.WordFinders.{WordFit, WordLaws, Lawful, Same, Outcome, find_answer}
+use Rattle.finders.proofs.Fitness.{unfit_unless_keeps}
+use Rattle.finders.proofs.FoundWords.{outcome_of, same_finds}
+use Rattle.codes.specs.Listed.{few, as_wide, listed}
+use Rattle.codes.specs.ReedMuller.{reed_muller}
+use Rattle.codes.specs.EvenWeightLaws.{even_weight_lawful}
+use Rattle.codes.specs.ListedLaws.{listed_laws}
+use Rattle.codes.specs.ReedMullerLaws.{reed_muller_lawful}
+use Rattle.codes.specs.UniverseLaws.{universe_lawful}
+use Rattle.codewords.specs.declared.words.Code.{Code}
+use Rattle.codewords.specs.declared.words.Code.TheVariants.{Universe, EvenWeight, ReedMuller}
+use Rattle.codewords.specs.Tasks.{m_of, code_meaning}
+
+codes_lawful : (k : Code) (n : ℕ) → Lawful (code_meaning k n)
+codes_lawful Universe n = universe_lawful n
+codes_lawful EvenWeight n = even_weight_lawful n
+codes_lawful ReedMuller n = reed_muller_lawful (m_of n)
+
+list_lawful : (n : ℕ) (vs : List ℕ) → Lawful (listed n vs)
+list_lawful n vs =
+    unfit_unless_keeps WordLaws (in_range n) Width _ (λ sized.
+    unfit_unless_keeps WordLaws (few (length vs)) WordCount _ (λ counted.
+    unfit_unless_keeps WordLaws (as_wide n vs) Entry _ (λ fitting.
+    listed_laws n vs sized (leb-true 1 (length vs) (and_parts (leb 1 (length vs)) (leb (length vs) 64) counted).0) fitting)))
+
+-- M is what was built for N
+found : (M N : Meaning WordFit) (gs : List ℤ) (r : Result (ℕ × ℤ) Refusal) → Lawful N → Same M N → r ≡ find_answer M gs → (r ≡ find_answer N gs) × Outcome N gs r
+found M N gs r l s a = let f = a ∙ same_finds M N gs s in (f, outcome_of N gs r l f)
+
+-- the code k is j, and M is what was built for it
+pub found_in_code : (k j : Code) (n : ℕ) (M : Meaning WordFit) (gs : List ℤ) (r : Result (ℕ × ℤ) Refusal) → k ≡ j → Same M (code_meaning j n) → r ≡ find_answer M gs → (r ≡ find_answer (code_meaning k n) gs) × Outcome (code_meaning k n) gs r
+found_in_code k j n M gs r e s a = rw e (found M (code_meaning j n) gs r (codes_lawful j n) s a)
+
+-- the code k is the Reed-Muller code, and m is that of n cells
+pub found_in_reed_muller : (k : Code) (n m : ℕ) (M : Meaning WordFit) (gs : List ℤ) (r : Result (ℕ × ℤ) Refusal) → k ≡ ReedMuller → m ≡ m_of n → Same M (reed_muller m) → r ≡ find_answer M gs → (r ≡ find_answer (code_meaning k n) gs) × Outcome (code_meaning k n) gs r
+found_in_reed_muller k n m M gs r e o s a = found_in_code k ReedMuller n M gs r e (rw o at s) a
+
+pub found_in_list : (n : ℕ) (vs : List ℕ) (M : Meaning WordFit) (gs : List ℤ) (r : Result (ℕ × ℤ) Refusal) → Same M (listed n vs) → r ≡ find_answer M gs → (r ≡ find_answer (listed n vs) gs) × Outcome (listed n vs) gs r
+found_in_list n vs M gs r s a = found M (listed n vs) gs r (list_lawful n vs) s a

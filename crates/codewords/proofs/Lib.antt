@@ -1,0 +1,5 @@
+pub mod Texts
+pub mod Written
+pub mod Slashes
+pub mod Replies
+pub mod CodeSets

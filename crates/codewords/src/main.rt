@@ -1,0 +1,22 @@
+// Reads tasks, one a line, and prints the best word of each.
+#![tactic(auto)]
+
+mod answers;
+mod lines;
+mod numbers;
+mod tasks;
+mod words;
+mod worked;
+
+use lines::respond;
+use std::io;
+use worked::all_worked_words_hold;
+
+fn main(rt: HostRuntime) -> anyhow::Result<()> {
+    all_worked_words_hold();
+    let heap = rt.alloc();
+    for line in rt.lines(heap) {
+        rt.println(respond(heap, line?.as_str())?)?;
+    }
+    Ok(())
+}

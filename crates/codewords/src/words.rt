@@ -1,0 +1,55 @@
+ghost use Rattle.std.specs.Prelude.{◌≡◌, length};
+ghost use Rattle.finders.specs.WordFinders.{find_answer, Outcome};
+ghost use Rattle.codes.specs.Listed.{listed};
+ghost use Rattle.codewords.specs.Tasks.{m_of, code_meaning};
+
+use codes::even_weight::EvenWeight;
+use codes::listed::Listed;
+use codes::reed_muller::ReedMuller;
+use codes::universe::Universe;
+use finders::refusals::Refusal;
+use finders::words::WordFinder;
+
+// The codes that a task can name.
+#[derive(Clone, Copy)]
+pub enum Code {
+    Universe,
+    EvenWeight,
+    ReedMuller,
+}
+
+// The m of the Reed-Muller code of so many cells: 0, which makes it unfit, where there is no such code.
+fn m_of(cells: usize) -> u32
+    ensures { result ≡ m_of cells }
+{
+    match cells {
+        2 => 1,
+        4 => 2,
+        8 => 3,
+        16 => 4,
+        32 => 5,
+        _ => 0,
+    }
+}
+
+impl Code {
+    // The best word and its correlation, as many cells as gains.
+    pub fn find(self, gains: &[i32]) -> Result<(u32, i64), Refusal>
+        ensures answers_the_pick_and_its_correlation { result ≡ find_answer (code_meaning self (length gains.now)) gains.now }
+        ensures gives_the_best_member { Outcome (code_meaning self (length gains.now)) gains.now result }
+    {
+        match self {
+            Code::Universe => Universe::new(gains.len()).find(gains),
+            Code::EvenWeight => EvenWeight::new(gains.len()).find(gains),
+            Code::ReedMuller => ReedMuller::new(m_of(gains.len())).find(gains),
+        }
+    }
+}
+
+// The best of listed words and its correlation, as many cells as gains.
+pub fn find_listed(words: &[u32], gains: &[i32]) -> Result<(u32, i64), Refusal>
+    ensures answers_the_pick_and_its_correlation { result ≡ find_answer (listed (length gains.now) words.now) gains.now }
+    ensures gives_the_best_listed_word { Outcome (listed (length gains.now) words.now) gains.now result }
+{
+    Listed::new(gains.len(), words).find(gains)
+}
