@@ -1,5 +1,5 @@
 -- The laws of listed words.
-use Rattle.std.specs.Prelude.{◌≡◌, ℕ, ◌-◌, ◌^◌, ◌<◌, ◌≤◌, Bool, true, List, [], ◌∷◌, map, length, take, ℤ, pos, ◌≤ℤ◌, Ok, Err, Decides, Result, nat_eq, nat_le, nat_lt, slice_index_or}
+use Rattle.std.specs.Prelude.{◌≡◌, ℕ, ◌-◌, ◌^◌, ◌<◌, ◌≤◌, Bool, true, List, [], ◌∷◌, map, length, take, ℤ, pos, ◌≤ℤ◌, Ok, Err, Result, nat_eq, nat_le, nat_lt, slice_index_or}
 use Rattle.std.proofs.Common.{sym, ap, arith}
 use Rattle.std.specs.List.{IsAnyAnswer, ContainsAt as Has, AllByRecursion}
 use Rattle.std.proofs.lemmas.List.Elements.{contains_decides}

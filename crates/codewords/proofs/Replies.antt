@@ -1,6 +1,5 @@
 -- What is found, and what the words of a line are answered by it.
-use Rattle.std.proofs.Common.{◌≡◌, ℕ, ◌+◌, ◌-◌, ◌<◌, ◌≤◌, List, [], ◌∷◌, map, length, get_or, take, drop, ℤ, Some, Ok, Err, vec_items, Result, Vec, sym, refl, ap, ◌∙◌, subst, ap₂, arith, Bor}
-use Rattle.std.specs.declared.alloc.Global.{Global}
+use Rattle.std.proofs.Common.{◌≡◌, ℕ, ◌+◌, ◌-◌, ◌<◌, ◌≤◌, List, [], ◌∷◌, map, length, get_or, take, drop, ℤ, Some, Result, refl, ap, ◌∙◌, subst, ap₂, arith, Bor}
 use Rattle.std.proofs.lemmas.List.{take_rest, take-map, drop-map}
 use Rattle.finders.specs.declared.refusals.Refusal.{Refusal}
 use Rattle.finders.specs.declared.refusals.Refusal.TheVariants.{Kind}
@@ -11,7 +10,7 @@ use Rattle.codewords.specs.declared.answers.Answer.TheVariants.{Refused, Unreada
 use Rattle.codewords.specs.declared.words.Code.{Code}
 use Rattle.codewords.specs.Answers.{word_answer}
 use Rattle.codewords.specs.Lines.{NoSlash, Cut, FirstSlash, FindsWord, CodeAnswer, PartsAnswer, ListedAnswer, Told, Answers}
-use Rattle.codewords.specs.Numbers.{Signeds, Unsigneds, Unwritten}
+use Rattle.codewords.specs.Numbers.{Signeds, Unsigneds}
 use Rattle.codewords.specs.Tasks.{named, code_meaning}
 use Rattle.codewords.proofs.Slashes.{cut_has_slash, same_cut}
 use Rattle.codewords.proofs.Written.{signeds_same, unsigneds_same}

@@ -1,12 +1,12 @@
 -- The words of a line as the loop has them, and what is written of an answer.
-use Rattle.std.proofs.Common.{◌≡◌, ℕ, ◌+◌, ◌<◌, ◌≤◌, false, List, [], ◌∷◌, ◌++◌, map, length, get_or, take, ℤ, pos, IfOk, string_bytes, codes, decimal, Result, String, sym, ap, ◌∙◌, subst, inl, inr, append_assoc, append-nil, Bor}
+use Rattle.std.proofs.Common.{◌≡◌, ℕ, ◌<◌, false, List, [], ◌∷◌, ◌++◌, map, length, ℤ, IfOk, string_bytes, codes, decimal, Result, String, sym, ap, ◌∙◌, subst, inl, inr, append_assoc, append-nil, Bor}
 use Rattle.std.specs.Str.{bytes_eq as same_text, NoCharPasses, EmptyOrStartsWithPassing}
 use Rattle.std.specs.Cmp.Lexicographic.{bytes_decides}
 use Rattle.std.specs.Char.{is_whitespace, is_not_whitespace}
 use Rattle.std.specs.Fmt.{signed_decimal}
 use Rattle.std.specs.declared.alloc.AllocError.{AllocError}
 use Rattle.std.specs.declared.alloc.Global.{Global}
-use Rattle.std.proofs.lemmas.List.{take_more, take_all, map_push}
+use Rattle.std.proofs.lemmas.List.{map_push}
 use Rattle.std.proofs.lemmas.Bool.{cases_Bool}
 use Rattle.codewords.specs.declared.answers.Answer.{Answer}
 use Rattle.codewords.specs.declared.answers.Answer.TheVariants.{Word}

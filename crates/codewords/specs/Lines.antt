@@ -1,15 +1,14 @@
 -- A line, its words, and what it is answered.
-use Rattle.std.specs.Prelude.{◌≡◌, ℕ, ◌+◌, ◌<◌, List, [], ◌∷◌, ◌++◌, length, take, drop, ℤ, Some, None, Ok, Err, vec_items, codes, Option, Result, ◌≢◌}
+use Rattle.std.specs.Prelude.{◌≡◌, ℕ, ◌+◌, ◌<◌, List, [], ◌∷◌, ◌++◌, length, take, drop, ℤ, Some, None, codes, Option, ◌≢◌}
 use Rattle.std.specs.Char.{is_whitespace, is_not_whitespace}
 use Rattle.std.specs.Str.{NoCharPasses, EmptyOrStartsWithPassing}
 use Rattle.std.specs.List.{AllByRecursion}
-use Rattle.finders.specs.declared.refusals.Refusal.{Refusal}
 use Rattle.finders.specs.declared.refusals.Refusal.TheVariants.{Kind}
 use Rattle.finders.specs.Meanings.{Meaning}
 use Rattle.finders.specs.WordFinders.{WordFit, find_answer as find_word}
 use Rattle.codes.specs.Listed.{listed}
 use Rattle.codewords.specs.declared.answers.Answer.{Answer}
-use Rattle.codewords.specs.declared.answers.Answer.TheVariants.{Word, Refused, Unreadable}
+use Rattle.codewords.specs.declared.answers.Answer.TheVariants.{Refused, Unreadable}
 use Rattle.codewords.specs.declared.tasks.Task.{Task}
 use Rattle.codewords.specs.declared.tasks.Task.TheVariants.{Codewords, Listed}
 use Rattle.codewords.specs.declared.words.Code.{Code}

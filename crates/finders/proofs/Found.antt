@@ -1,9 +1,9 @@
 -- What any finder finds is nearest, by the laws of its meaning.
-use Rattle.std.proofs.Common.{◌≡◌, ℕ, Bool, true, false, ◌&&◌, eqb, leb, List, length, ℤ, Ok, Err, Result, sym, refl, ap}
+use Rattle.std.proofs.Common.{◌≡◌, ℕ, ◌&&◌, eqb, leb, List, length, ℤ, Ok, Err, Result, refl, ap}
 use Rattle.std.proofs.lemmas.Bool.{leb-true, eqb-true, and_parts}
 use Rattle.finders.specs.declared.refusals.Refusal.{Refusal}
 use Rattle.finders.specs.declared.refusals.Refusal.TheVariants.{Length, Magnitude, Step}
-use Rattle.finders.specs.Meanings.{Meaning, fit, unfit, checked, answered, placed}
+use Rattle.finders.specs.Meanings.{Meaning, fit, unfit, answered, placed}
 use Rattle.finders.specs.Points.{distance, within}
 use Rattle.finders.specs.PointFinders.{PointFit, PointLaws, Lawful, Asked, Outcome, Same, find_checked, find_answer, find_place}
 use Rattle.finders.proofs.Fitness.{passed}

@@ -1,11 +1,11 @@
 -- `nearest q r` is the whole number nearest to r / q, and of two such numbers the one nearer to zero.
-use Rattle.std.proofs.Common.{◌≡◌, ℕ, zero, suc, ◌+◌, ◌-◌, ◌*◌, ◌/◌, ◌%◌, ◌<◌, ◌≤◌, ◌⊎◌, [], ◌∷◌, ℤ, pos, negsuc, ◌+ℤ◌, ◌-ℤ◌, ◌*ℤ◌, neg_ℤ, nat_abs, ◌≤ℤ◌, ◌<ℤ◌, sym, refl, ap, ◌∙◌, subst, inl, inr, mul-le-mul_right, mod-lt, mul-le-mul_left, arith, SFits}
+use Rattle.std.proofs.Common.{◌≡◌, ℕ, zero, suc, ◌+◌, ◌-◌, ◌*◌, ◌<◌, ◌≤◌, ◌⊎◌, ℤ, pos, negsuc, ◌-ℤ◌, ◌*ℤ◌, neg_ℤ, nat_abs, ◌≤ℤ◌, ◌<ℤ◌, sym, refl, ap, ◌∙◌, inl, inr, mul-le-mul_right, mod-lt, mul-le-mul_left, arith, SFits}
 use mir.Syntax.{Width}
 use native.Mathlib.Nat.{div-add-mod, le_of_mul-le-mul_left}
 use lib.IntN.{ℤ_discrete, +ℤ_invr}
 use borrow.Author.Differences.{ints}
 use Rattle.integers.specs.Nearest.{nearestℕ, nearest, residue, Side, IsNearest}
-use Rattle.integers.specs.Ring.{Ex, ◌⊕◌, ◌⊖◌, ◌⊗◌, eval}
+use Rattle.integers.specs.Ring.{◌⊖◌, ◌⊗◌}
 use Rattle.integers.proofs.Laws.{*ℤ-neg}
 use Rattle.integers.proofs.Order.{nat_abs-*ℤ, nat_abs_apart, nat_abs_neg, ≤ℤ-or-<, nat_abs--ℤ-le}
 use Rattle.integers.proofs.Ring.{ring4}

@@ -1,7 +1,6 @@
-use Rattle.std.proofs.Common.{◌≡◌, ℕ, ◌<◌, List, [], ◌∷◌, length, get_or, set, ℤ, pos, negsuc, ◌+ℤ◌, ◌-ℤ◌, ◌*ℤ◌, sym, refl, ap, ◌∙◌, arith}
-use borrow.Author.Differences.{ints}
-use Rattle.integers.specs.Ring.{Ex, k, ◌⊕◌, ◌⊖◌, ◌⊗◌}
-use Rattle.integers.specs.Nearest.{nearest, residue}
+use Rattle.std.proofs.Common.{◌≡◌, ℕ, ◌<◌, List, length, get_or, set, ℤ, pos, negsuc, ◌+ℤ◌, ◌-ℤ◌, ◌*ℤ◌, refl, ap, ◌∙◌, arith}
+use Rattle.integers.specs.Ring.{k, ◌⊕◌, ◌⊖◌, ◌⊗◌}
+use Rattle.integers.specs.Nearest.{nearest}
 use Rattle.integers.specs.Sums.{sumℤ, zip_with}
 use Rattle.integers.proofs.Ring.{ring3}
 use Rattle.integers.proofs.Sums.{sumℤ-zip-≡, sumℤ-zip-+, sumℤ-zip--, sumℤ-zip-*, sumℤ-set, sum-laws, zip_with_set_right, get_or_zip_with, length_zip_with}

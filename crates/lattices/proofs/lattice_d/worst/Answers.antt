@@ -1,6 +1,5 @@
 use Rattle.std.proofs.Common.{◌≡◌, ℕ, List, map, length, get_or, take, pos, nat_abs, ap, subst, arith, w32, w64, SFits, to_z, of_z, rules}
 use Rattle.std.proofs.lemmas.List.{take_all, length-map}
-use Rattle.integers.specs.Nearest.{residue}
 use Rattle.finders.specs.declared.choice.Greatest.{Greatest}
 use Rattle.finders.specs.Choice.{Chosen}
 use Rattle.lattices.specs.LatticeD.{left_over}
