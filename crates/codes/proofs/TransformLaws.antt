@@ -44,11 +44,11 @@ module _ (m h : ℕ) (t : List ℤ) (its : Halved m h t) where
 
   -- the lower half is transformed to A
   module _ (A : List ℤ) (is_low : A ≡ spectrum (m - 1) (take (h - 0) t)) where
-    AWide : length A ≡ h
-    AWide = ap length is_low ∙ length_spectrum (m - 1) (take (h - 0) t) ∙ sym half_is
+    a_wide : length A ≡ h
+    a_wide = ap length is_low ∙ length_spectrum (m - 1) (take (h - 0) t) ∙ sym half_is
 
     rest : drop h (A ++ drop (h - 0) t) ≡ drop h t
-    rest = drop_at A (drop (h - 0) t) h AWide ∙ ap (λ (k : ℕ). drop k t) from_0
+    rest = drop_at A (drop (h - 0) t) h a_wide ∙ ap (λ (k : ℕ). drop k t) from_0
 
     pub high_is : take (length t - h) (drop h (A ++ drop (h - 0) t)) ≡ drop h t
     high_is = rw rest (take_rest t h)
@@ -61,15 +61,15 @@ module _ (m h : ℕ) (t : List ℤ) (its : Halved m h t) where
 
     -- and the upper half to B
     module _ (B : List ℤ) (is_high : B ≡ spectrum (m - 1) (take (length t - h) (drop h (A ++ drop (h - 0) t)))) where
-      BWide : length B ≡ h
-      BWide = ap length is_high ∙ length_spectrum (m - 1) _ ∙ sym half_is
+      b_wide : length B ≡ h
+      b_wide = ap length is_high ∙ length_spectrum (m - 1) _ ∙ sym half_is
 
       pub both : take h (A ++ drop (h - 0) t) ++ (B ++ drop (length t - h) (drop h (A ++ drop (h - 0) t))) ≡ A ++ B
       both =
-          ap₂ ◌++◌ (take_at A (drop (h - 0) t) h AWide) (ap (λ (v : List ℤ). B ++ v) (ap (drop (length t - h)) rest ∙ drop_all (length t - h) (drop h t) (simp length-drop (omega arith))) ∙ append-nil B)
+          ap₂ ◌++◌ (take_at A (drop (h - 0) t) h a_wide) (ap (λ (v : List ℤ). B ++ v) (ap (drop (length t - h)) rest ∙ drop_all (length t - h) (drop h t) (simp length-drop (omega arith))) ∙ append-nil B)
 
       pub both_wide : length (A ++ B) ≡ h + h
-      both_wide = length-append A B ∙ ap₂ ◌+◌ AWide BWide
+      both_wide = length-append A B ∙ ap₂ ◌+◌ a_wide b_wide
 
       pub both_small : within (2 ^ 35) (A ++ B) ≡ true
       both_small = within_append (2 ^ 35) A B
@@ -78,6 +78,6 @@ module _ (m h : ℕ) (t : List ℤ) (its : Halved m h t) where
 
       pub transformed : butterflies h (A ++ B) ≡ spectrum m t
       transformed =
-          ap₂ crossed (take_at A B h AWide ∙ is_low) (drop_at A B h AWide ∙ is_high ∙ ap (spectrum (m - 1)) high_is)
+          ap₂ crossed (take_at A B h a_wide ∙ is_low) (drop_at A B h a_wide ∙ is_high ∙ ap (spectrum (m - 1)) high_is)
           ∙ sym (spectrum_halves (m - 1) (take (h - 0) t) (drop h t) low_wide high_wide)
           ∙ ap₂ spectrum (sym below) (ap (λ (k : ℕ). take k t ++ drop h t) from_0 ∙ take-append-drop h t)
