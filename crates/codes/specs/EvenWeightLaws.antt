@@ -12,11 +12,11 @@ use Rattle.std.proofs.lemmas.List.{length-map, get_or-map}
 use Rattle.std.proofs.lemmas.Int.{ints}
 use Rattle.std.proofs.lemmas.Bool.{leb-true, eqb-true, eqb-false, cond_both, cases_eq}
 use Rattle.finders.specs.declared.choice.Least.{Least}
-use Rattle.finders.specs.Choice.{IsFirst, Chosen, no_larger}
+use Rattle.finders.specs.Choice.{IsFirst, Chosen, numbered, no_larger}
 use Rattle.finders.specs.Sizes.{in_range}
 use Rattle.finders.specs.Words.{correlation, signed}
 use Rattle.finders.specs.WordFinders.{Lawful}
-use Rattle.finders.proofs.Firsts.{first_best_is, offered, none_offered, chosen_is_first, map_none, all_mapped}
+use Rattle.finders.proofs.Firsts.{first_best_is, chosen_is_first, map_none, all_mapped}
 use Rattle.finders.proofs.Scores.{Little, small, small_decides, no_larger_total, no_larger_chain}
 use Rattle.codes.specs.Digits.{word, reversed, reversed_at}
 use Rattle.codes.specs.Universe.{sign, signs}
@@ -132,15 +132,6 @@ even_weight_lawful n = code_lawful n (λ w. (w < 2 ^ n) × (count_ones w % 2 ≡
     (λ gs some e. (rw e at (pick_below gs some), pick_is_even gs some))
     (λ gs some e w h. none_is_better gs some w (rw e h.0) h.1)
     (in_range n) (range n)
-
--- ---- the choice finds the weakest cell
-
-pub chosen_weakest : (gs : List ℤ) (held : Option (ℕ × Least)) → Chosen Little (offered (λ i _. i) small 0 (map unsigned_abs gs)) held → MatchOption held (gs ≡ []) (λ c. (c.0 ≡ weakest gs) × (c.0 < length gs) × (c.1.0 ≡ unsigned_abs (slice_index_or gs c.0 (pos 0))))
-chosen_weakest gs None h = map_none unsigned_abs gs (none_offered (λ i _. i) small (map unsigned_abs gs) h)
-chosen_weakest gs (Some (i, s)) h =
-    let p = chosen_is_first (λ k _. k) small no_larger Little small_decides 0 (map unsigned_abs gs) i s h in
-    let k : weakest gs < length gs = rw (length-map gs unsigned_abs) at p.0 in
-    rw p.1 (refl, k, ap (λ (v : Least). v.0) p.2 ∙ get_or-map unsigned_abs gs (weakest gs) (pos 0) 0 k)
 
 -- ---- the repair as the machine works it out: i is the weakest cell, and n its gain's size
 

@@ -8,7 +8,7 @@ ghost use Rattle.codes.specs.EvenWeightLaws.{even_weight_lawful};
 
 use super::shapes::shape_of;
 use super::signs::signs;
-use finders::choice::{FirstBest, Least};
+use finders::choice::{Least, first_best};
 use finders::refusals::Refusal;
 use finders::words::{WordFinder, WordShape, WordTester};
 
@@ -30,11 +30,11 @@ fn has_even_weight(word: u32) -> bool
 fn weakest(gains: &[i32]) -> Option<(usize, Least)>
     ensures { MatchOption result (gains.now ≡ []) (λ c. (c.0 ≡ weakest gains.now) × (c.0 < length gains.now) × (c.1.0 ≡ unsigned_abs (slice_index_or gains.now c.0 (pos 0)))) }
 {
-    let mut weakest = FirstBest::none();
-    for (i, gain) in gains.iter().enumerate() {
-        weakest.offer(i, Least(u64::from(gain.unsigned_abs())));
-    }
-    weakest.held
+    first_best(
+        gains
+            .iter()
+            .map(|gain| Least(u64::from(gain.unsigned_abs()))),
+    )
 }
 
 // Reverses the weakest cell of the word of signs, and answers the correlation that this leaves.

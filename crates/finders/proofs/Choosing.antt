@@ -1,5 +1,6 @@
 -- One more offer: what is held is still the first best.
-use Rattle.std.proofs.Common.{◌≡◌, ◌⊎◌, List, [], ◌∷◌, ◌++◌, Some, None, Option, sym, refl, ap, ◌∙◌, subst, inl, inr, append_assoc}
+use Rattle.std.proofs.lemmas.Bool.{both_ways}
+use Rattle.std.proofs.Common.{Bool, true, false, cond, Decides, MatchOption, ◌≡◌, ◌⊎◌, List, [], ◌∷◌, ◌++◌, Some, None, Option, sym, refl, ap, ◌∙◌, subst, inl, inr, append_assoc}
 use Rattle.std.specs.List.{AllByRecursion}
 use Rattle.std.proofs.ByRecursion.{All-append, All-weaker}
 use Rattle.finders.specs.Choice.{IsFirstBest, Chosen}
@@ -27,24 +28,22 @@ module _ {S : Type 0} (good : S → S → Type 0) (total : (a b : S) → good a 
       after : AllByRecursion Worse f.later
       after = All-weaker (λ y. good b.1 y.1) Worse (λ y w g. n (chain b.1 y.1 x.1 w g)) f.later f.later_are_no_better
 
-  -- nothing that is held is at least as good: the new one is held
-  pub chosen_new : {C : Type 0} (offers : List (C × S)) (held : Option (C × S)) (x : C × S) → ((b : C × S) → held ≡ Some b → good b.1 x.1 → ⊥) → Chosen good offers held → IsFirstBest good (offers ++ x ∷ []) x
-  chosen_new offers None x n e = record { earlier = []; later = []; stands = ap (λ v. v ++ x ∷ []) e; earlier_are_worse = tt; later_are_no_better = tt }
-  chosen_new offers (Some b) x n f = offer_taken offers b x (n b refl) f
+  offer_stays : {C : Type 0} (offers : List (C × S)) (b x : C × S) → good b.1 x.1 → IsFirstBest good offers b → IsFirstBest good (offers ++ x ∷ []) b
+  offer_stays offers b x g f = record {
+    earlier = f.earlier;
+    later = f.later ++ x ∷ [];
+    stands = ap (λ v. v ++ x ∷ []) f.stands ∙ append_assoc f.earlier (b ∷ f.later) (x ∷ []);
+    earlier_are_worse = f.earlier_are_worse;
+    later_are_no_better = All-append (λ y. good b.1 y.1) f.later (x ∷ []) f.later_are_no_better (g, tt);
+  }
 
--- what is held is at least as good: it stays
-pub chosen_stays : {C S : Type 0} (good : S → S → Type 0) (offers : List (C × S)) (held : Option (C × S)) (b x : C × S) → held ≡ Some b → good b.1 x.1 → Chosen good offers held → Chosen good (offers ++ x ∷ []) held
-chosen_stays {C} {S} good offers held b x e g f = subst (Chosen good (offers ++ x ∷ [])) (sym e) (stays (subst (Chosen good offers) e f))
-  where
-    stays : IsFirstBest good offers b → IsFirstBest good (offers ++ x ∷ []) b
-    stays f = record {
-      earlier = f.earlier;
-      later = f.later ++ x ∷ [];
-      stands = ap (λ v. v ++ x ∷ []) f.stands ∙ append_assoc f.earlier (b ∷ f.later) (x ∷ []);
-      earlier_are_worse = f.earlier_are_worse;
-      later_are_no_better = All-append (λ y. good b.1 y.1) f.later (x ∷ []) f.later_are_no_better (g, tt);
-    }
+  -- r tells whether something is held that is at least as good as x; then it stays, and else x takes its place
+  pub chosen_more : {C : Type 0} (offers : List (C × S)) (held : Option (C × S)) (x : C × S) (r : Bool) → MatchOption held (r ≡ false) (λ b. Decides r (good b.1 x.1)) → Chosen good offers held → Chosen good (offers ++ x ∷ []) (cond r held (Some x))
+  chosen_more offers None x r f e = rw (f, e) (record { earlier = []; later = []; stands = refl; earlier_are_worse = tt; later_are_no_better = tt })
+  chosen_more offers (Some b) x true d f = offer_stays offers b x (d.0 refl) f
+  chosen_more offers (Some b) x false d f = offer_taken offers b x (λ g. both_ways true (sym (d.1 g)) refl) f
 
--- what is held is b, and as the code reads it (c, s)
-pub held_good : {C S : Type 0} (good : S → S → Type 0) (held : Option (C × S)) (b : C × S) (c : C) (s x : S) → held ≡ Some b → held ≡ Some (c, s) → good b.1 x → good s x
-held_good {C} {S} good held b c s x e f g = let p : b ≡ (c, s) = cc in subst (λ (y : C × S). good y.1 x) p g
+-- what is known of what is held leads on
+pub then : {X : Type 0} (N : Type 0) {P Q : X → Type 0} (o : Option X) → MatchOption o N P → ((x : X) → P x → Q x) → MatchOption o N Q
+then N None n f = n
+then N (Some x) p f = f x p

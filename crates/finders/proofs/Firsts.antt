@@ -1,9 +1,8 @@
 -- The index of the first best of a list: what makes it right, and that the choice of the first best finds it.
-use Rattle.std.proofs.Common.{◌≡◌, ℕ, suc, ◌+◌, ◌<◌, ◌≤◌, Bool, true, false, ◌⊎◌, List, [], ◌∷◌, ◌++◌, map, length, get_or, take, Decides, sym, refl, ap, ◌∙◌, ap₂, inl, inr, arith}
+use Rattle.std.proofs.Common.{◌≡◌, ℕ, suc, ◌+◌, ◌<◌, ◌≤◌, Bool, true, false, ◌⊎◌, List, [], ◌∷◌, ◌++◌, map, length, get_or, Some, None, Option, MatchOption, Decides, sym, refl, inl, inr, arith}
 use Rattle.std.specs.List.{AllByRecursion}
-use Rattle.std.proofs.lemmas.List.{length-take-le, take_more}
 use Rattle.std.proofs.lemmas.Bool.{and_parts, both_ways}
-use Rattle.finders.specs.Choice.{IsFirstBest, as_good_as, first_best, IsFirst}
+use Rattle.finders.specs.Choice.{Chosen, numbered, as_good_as, first_best, IsFirst}
 
 module _ {A : Type 0} (good : A → A → Bool) where
   as_good_all : (a : A) (xs : List A) → as_good_as good a xs ≡ true → AllByRecursion (λ b. good a b ≡ true) xs
@@ -49,11 +48,6 @@ module _ {A : Type 0} (good : A → A → Bool) where
 
 -- ---- the choice
 
--- what is offered for each of a list, whose first has the index k: a candidate and its score
-abbrev pub offered : {A C S : Type 0} → (ℕ → A → C) → (A → S) → ℕ → List A → List (C × S)
-offered candidate score k [] = []
-offered candidate score k (a ∷ xs) = (candidate k a, score a) ∷ offered candidate score (suc k) xs
-
 no_offer : {X : Type 0} {x : X} {xs : List X} → ◌≡◌ {A = List X} [] (x ∷ xs) → ⊥
 no_offer e = let z : ◌≡◌ {A = ℕ} 0 1 = cc in omega arith
 
@@ -65,65 +59,50 @@ pub all_mapped : {A B : Type 0} (P : B → Type 0) (f : A → B) (xs : List A) �
 all_mapped P f [] h = tt
 all_mapped P f (x ∷ xs) h = (h.0, all_mapped P f xs h.1)
 
-module _ {A C S : Type 0} (candidate : ℕ → A → C) (score : A → S) where
-  offered_push : (k i : ℕ) (xs : List A) (a : A) → k + length xs ≡ i → offered candidate score k (xs ++ a ∷ []) ≡ offered candidate score k xs ++ (candidate i a, score a) ∷ []
-  offered_push k i [] a e = let f : k ≡ i = omega arith in rw f
-  offered_push k i (b ∷ xs) a e = ap (λ (v : List (C × S)). (candidate k b, score b) ∷ v) (offered_push (suc k) i xs a (omega arith))
+-- what is chosen of the scores of a list is the index of the first best
+module _ {A S : Type 0} (score : A → S) (good : A → A → Bool) (Good : S → S → Type 0) (decides : (a b : A) → Decides (good a b) (Good (score a) (score b))) (d : A) where
+  abbrev offers : ℕ → List A → List (ℕ × S)
+  offers k xs = numbered k (map score xs)
 
-  -- one offer more, in a loop over the list
-  pub offers_more : (xs : List A) (i : ℕ) (d : A) (c : C) (s : S) → i < length xs → c ≡ candidate i (get_or xs i d) → s ≡ score (get_or xs i d) → offered candidate score 0 (take i xs) ++ (c, s) ∷ [] ≡ offered candidate score 0 (take (i + 1) xs)
-  offers_more xs i d c s h e f =
-      let k : i ≤ length xs = omega arith in
-      ap₂ (λ (x : C) (y : S). offered candidate score 0 (take i xs) ++ (x, y) ∷ []) e f
-      ∙ sym (offered_push 0 i (take i xs) (get_or xs i d) (omega (arith, length-take-le i xs k)))
-      ∙ ap (offered candidate score 0) (sym (take_more xs i d h))
+  abbrev At : ℕ → List A → ℕ × S → Type 0
+  At k xs b = (b.0 ≡ k + first_best good xs) × (first_best good xs < length xs) × (b.1 ≡ score (get_or xs (first_best good xs) d))
 
-  pub none_offered : (xs : List A) → offered candidate score 0 xs ≡ [] → xs ≡ []
-  none_offered [] e = refl
-  none_offered (a ∷ xs) e = absurd (no_offer (sym e))
+  no_better : (a : A) (k : ℕ) (xs : List A) → AllByRecursion (λ x. Good (score a) x.1) (offers k xs) → as_good_as good a xs ≡ true
+  no_better a k [] h = refl
+  no_better a k (b ∷ xs) h = rw ((decides a b).1 h.0, no_better a (suc k) xs h.1)
 
-  -- what is chosen stands at the index of the first best
-  module _ (good : A → A → Bool) (Good : S → S → Type 0) (decides : (a b : A) → Decides (good a b) (Good (score a) (score b))) (d : A) where
-    abbrev At : ℕ → List A → C × S → Type 0
-    At k xs b = (first_best good xs < length xs) × (b.0 ≡ candidate (k + first_best good xs) (get_or xs (first_best good xs) d)) × (b.1 ≡ score (get_or xs (first_best good xs) d))
+  -- a is worse than one of the list
+  beaten : (a : A) (k : ℕ) (xs : List A) (es later : List (ℕ × S)) (b : ℕ × S) → offers k xs ≡ es ++ b ∷ later → (Good (score a) b.1 → ⊥) → as_good_as good a xs ≡ true → ⊥
+  beaten a k [] [] later b e n g = no_offer e
+  beaten a k [] (x ∷ es) later b e n g = no_offer e
+  beaten a k (c ∷ xs) [] later b e n g =
+      let h : (k, score c) ≡ b = cc in
+      n (rw (sym h) ((decides a c).0 (and_parts (good a c) (as_good_as good a xs) g).0))
+  beaten a k (c ∷ xs) (x ∷ es) later b e n g =
+      let t : offers (suc k) xs ≡ es ++ b ∷ later = cc in
+      beaten a (suc k) xs es later b t n (and_parts (good a c) (as_good_as good a xs) g).1
 
-    no_better : (a : A) (k : ℕ) (xs : List A) → AllByRecursion (λ x. Good (score a) x.1) (offered candidate score k xs) → as_good_as good a xs ≡ true
-    no_better a k [] h = refl
-    no_better a k (b ∷ xs) h = rw ((decides a b).1 h.0, no_better a (suc k) xs h.1)
+  at : (k : ℕ) (xs : List A) (es later : List (ℕ × S)) (b : ℕ × S) → offers k xs ≡ es ++ b ∷ later → AllByRecursion (λ x. Good x.1 b.1 → ⊥) es → AllByRecursion (λ x. Good b.1 x.1) later → At k xs b
+  at k [] [] later b e w l = absurd (no_offer e)
+  at k [] (x ∷ es) later b e w l = absurd (no_offer e)
+  at k (a ∷ xs) [] later b e w l =
+      let h : (k, score a) ≡ b = cc in
+      let t : offers (suc k) xs ≡ later = cc in
+      let z : k + 0 ≡ k = omega arith in
+      rw (no_better a (suc k) xs (rw (sym h, sym t) at l)) (rw (sym h, z), omega arith, rw (sym h))
+  at k (a ∷ xs) (x ∷ es) later b e w l =
+      let h : (k, score a) ≡ x = cc in
+      let t : offers (suc k) xs ≡ es ++ b ∷ later = cc in
+      let n : Good (score a) b.1 → ⊥ = rw (sym h) at w.0 in
+      let no : as_good_as good a xs ≡ false = elim (as_good_as good a xs) as (λ v. as_good_as good a xs ≡ v → as_good_as good a xs ≡ false) [
+        | true ↦ λ g. absurd (beaten a (suc k) xs es later b t n g)
+        | false ↦ λ g. g
+      ] refl in
+      let r = at (suc k) xs es later b t w.1 l in
+      let z : k + suc (first_best good xs) ≡ suc k + first_best good xs = omega arith in
+      rw (no, z) (r.0, omega (arith, r.1), r.2)
 
-    -- a is worse than one of the list
-    beaten : (a : A) (k : ℕ) (xs : List A) (es later : List (C × S)) (b : C × S) → offered candidate score k xs ≡ es ++ b ∷ later → (Good (score a) b.1 → ⊥) → as_good_as good a xs ≡ true → ⊥
-    beaten a k [] [] later b e n g = no_offer e
-    beaten a k [] (x ∷ es) later b e n g = no_offer e
-    beaten a k (c ∷ xs) [] later b e n g =
-        let h : (candidate k c, score c) ≡ b = cc in
-        n (rw (sym h) ((decides a c).0 (and_parts (good a c) (as_good_as good a xs) g).0))
-    beaten a k (c ∷ xs) (x ∷ es) later b e n g =
-        let t : offered candidate score (suc k) xs ≡ es ++ b ∷ later = cc in
-        beaten a (suc k) xs es later b t n (and_parts (good a c) (as_good_as good a xs) g).1
-
-    at : (k : ℕ) (xs : List A) (es later : List (C × S)) (b : C × S) → offered candidate score k xs ≡ es ++ b ∷ later → AllByRecursion (λ x. Good x.1 b.1 → ⊥) es → AllByRecursion (λ x. Good b.1 x.1) later → At k xs b
-    at k [] [] later b e w l = absurd (no_offer e)
-    at k [] (x ∷ es) later b e w l = absurd (no_offer e)
-    at k (a ∷ xs) [] later b e w l =
-        let h : (candidate k a, score a) ≡ b = cc in
-        let t : offered candidate score (suc k) xs ≡ later = cc in
-        let z : k + 0 ≡ k = omega arith in
-        rw (no_better a (suc k) xs (rw (sym h, sym t) at l)) (omega arith, rw (sym h, z), rw (sym h))
-    at k (a ∷ xs) (x ∷ es) later b e w l =
-        let h : (candidate k a, score a) ≡ x = cc in
-        let t : offered candidate score (suc k) xs ≡ es ++ b ∷ later = cc in
-        let n : Good (score a) b.1 → ⊥ = rw (sym h) at w.0 in
-        let no : as_good_as good a xs ≡ false = elim (as_good_as good a xs) as (λ v. as_good_as good a xs ≡ v → as_good_as good a xs ≡ false) [
-          | true ↦ λ g. absurd (beaten a (suc k) xs es later b t n g)
-          | false ↦ λ g. g
-        ] refl in
-        let r = at (suc k) xs es later b t w.1 l in
-        let z : k + suc (first_best good xs) ≡ suc k + first_best good xs = omega arith in
-        rw (no, z) (omega (arith, r.0), r.1, r.2)
-
-    pub chosen_is_first : (xs : List A) (c : C) (s : S) → IsFirstBest Good (offered candidate score 0 xs) (c, s) →
-        (first_best good xs < length xs) × (c ≡ candidate (first_best good xs) (get_or xs (first_best good xs) d)) × (s ≡ score (get_or xs (first_best good xs) d))
-    chosen_is_first xs c s f =
-        let z : 0 + first_best good xs ≡ first_best good xs = omega arith in
-        rw z at (at 0 xs f.earlier f.later (c, s) f.stands f.earlier_are_worse f.later_are_no_better)
+  pub chosen_is_first : (xs : List A) (held : Option (ℕ × S)) → Chosen Good (offers 0 xs) held → MatchOption held (xs ≡ []) (At 0 xs)
+  chosen_is_first [] None e = refl
+  chosen_is_first (x ∷ xs) None e = absurd (no_offer (sym e))
+  chosen_is_first xs (Some b) f = at 0 xs f.earlier f.later b f.stands f.earlier_are_worse f.later_are_no_better

@@ -1,18 +1,13 @@
--- A meaning that is fit where a test passes.
+-- A meaning that is unfit unless a test passes.
 use Rattle.std.proofs.Common.{◌≡◌, ℕ, Bool, true, false, Ok, Err, Result, sym, refl, arith}
 use Rattle.finders.specs.declared.refusals.Refusal.{Refusal}
-use Rattle.finders.specs.Meanings.{Meaning, fit_if, unfit_unless, Keeps, checked}
-use Rattle.finders.specs.PointFinders.{PointFit, PointLaws, Lawful}
+use Rattle.finders.specs.Meanings.{Meaning, unfit_unless, Keeps, checked}
 
 -- what is granted is not refused
 pub not_err : {A : Type 0} {x : A} {e : Refusal} → ◌≡◌ {A = Result A Refusal} (Ok x) (Err e) → ⊥
 not_err h = let z : ◌≡◌ {A = ℕ} 0 1 = cc in omega arith
 
 -- the laws are owed only where the test passes
-pub fit_if_lawful : (b : Bool) (e : Refusal) (m : PointFit) → (b ≡ true → PointLaws m) → Lawful (fit_if b e m)
-fit_if_lawful true e m l = l refl
-fit_if_lawful false e m l = tt
-
 pub unfit_unless_keeps : {F : Type 1} (Laws : F → Type 0) (b : Bool) (e : Refusal) (M : Meaning F) → (b ≡ true → Keeps Laws M) → Keeps Laws (unfit_unless b e M)
 unfit_unless_keeps Laws true e M l = l refl
 unfit_unless_keeps Laws false e M l = tt

@@ -7,6 +7,7 @@ pub mod Found
 pub mod FoundWords
 pub mod Choosing
 pub mod Firsts
+pub mod FirstRuns
 pub mod Scores
 pub mod RoundingLaws
 pub mod RoundingBits

@@ -1,19 +1,25 @@
--- Numbers of a list that are within a limit: the steps of a loop that tests them all, one of them, and parts of the list.
-use Rattle.std.proofs.Common.{◌≡◌, ℕ, zero, suc, ◌+◌, ◌<◌, ◌≤◌, true, false, leb, List, [], ◌∷◌, ◌++◌, length, get_or, take, drop, ℤ, pos, nat_abs, refl, add-one, arith, drop-cons}
+-- Numbers of a list that are within a limit: a test of them all, one of them, and parts of the list.
+use Rattle.std.specs.Bool.{MatchBool}
+use Rattle.std.proofs.Math.Bool.{and-false}
+use Rattle.std.specs.List.{AllWithin, HoldsAt}
+use Rattle.std.proofs.Common.{Bool, sym, ◌≡◌, ℕ, zero, suc, ◌<◌, ◌≤◌, true, false, leb, List, [], ◌∷◌, ◌++◌, length, get_or, take, drop, ℤ, pos, nat_abs, refl, arith}
 use Rattle.std.proofs.lemmas.Bool.{le-leb, lt-leb, and_parts, leb-true}
-use Rattle.std.proofs.lemmas.List.{drop_all}
 use Rattle.finders.specs.Points.{within}
 use Rattle.finders.specs.Sizes.{in_range}
 
-module _ (limit : ℕ) (zs : List ℤ) (i : ℕ) where
-  pub within_more : i < length zs → nat_abs (get_or zs i (pos 0)) ≤ limit → within limit (drop i zs) ≡ within limit (drop (i + 1) zs)
-  within_more h k = rw (add-one, drop-cons zs i (pos 0) h, le-leb (nat_abs (get_or zs i (pos 0))) limit k)
+-- each number tested, from the first on
+within_all : (limit : ℕ) (zs : List ℤ) → ((k : ℕ) → k < length zs → nat_abs (get_or zs k (pos 0)) ≤ limit) → within limit zs ≡ true
+within_all limit [] h = refl
+within_all limit (z ∷ zs) h = rw (le-leb (nat_abs z) limit (h 0 (omega arith)), within_all limit zs (λ k l. h (suc k) (omega arith))) refl
 
-  pub within_over : i < length zs → limit < nat_abs (get_or zs i (pos 0)) → within limit (drop i zs) ≡ false
-  within_over h k = rw (drop-cons zs i (pos 0) h, lt-leb (nat_abs (get_or zs i (pos 0))) limit k)
+within_over : (limit : ℕ) (zs : List ℤ) (k : ℕ) → k < length zs → limit < nat_abs (get_or zs k (pos 0)) → within limit zs ≡ false
+within_over limit [] k h o = absurd (omega arith)
+within_over limit (z ∷ zs) zero h o = rw (lt-leb (nat_abs z) limit o) refl
+within_over limit (z ∷ zs) (suc k) h o = rw (within_over limit zs k (omega arith) o) (and-false (leb (nat_abs z) limit))
 
-  pub within_end : length zs ≤ i → within limit (drop i zs) ≡ true
-  within_end h = rw (drop_all i zs h)
+pub tells_within : (limit : ℕ) (zs : List ℤ) (r : Bool) → MatchBool r (AllWithin (λ z. nat_abs z ≤ limit) zs 0 (length zs)) ((k : ℕ) × (k < length zs) × HoldsAt (λ z. limit < nat_abs z) zs k) → r ≡ within limit zs
+tells_within limit zs true h = sym (within_all limit zs (λ k l. h k (pos 0) (omega arith) l))
+tells_within limit zs false h = sym (within_over limit zs h.0 h.1 (h.2 (pos 0)))
 
 pub within_at : (limit : ℕ) (zs : List ℤ) (i : ℕ) → within limit zs ≡ true → i < length zs → nat_abs (get_or zs i (pos 0)) ≤ limit
 within_at limit [] i h k = absurd (omega arith)

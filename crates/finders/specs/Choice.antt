@@ -15,6 +15,11 @@ abbrev pub Chosen : {C S : Type 0} → (S → S → Type 0) → List (C × S) �
 Chosen at_least offers None = offers ≡ []
 Chosen at_least offers (Some b) = IsFirstBest at_least offers b
 
+-- each of a list with its index, where the first has the index k
+abbrev pub numbered : {S : Type 0} → ℕ → List S → List (ℕ × S)
+numbered k [] = []
+numbered k (x ∷ xs) = (k, x) ∷ numbered (suc k) xs
+
 -- ---- the index of the first best of a list; `good a b` is the test whether a is at least as good as b
 
 -- a is at least as good as each of the list

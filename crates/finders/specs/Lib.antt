@@ -1,7 +1,7 @@
 pub mod Refusals
-pub mod Sizes
 pub mod Meanings
 pub mod Points
+pub mod Sizes
 pub mod PointFinders
 pub mod Words
 pub mod WordFinders

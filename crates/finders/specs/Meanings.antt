@@ -6,11 +6,6 @@ pub data Meaning (F : Type 1) : Type 1 where
   unfit : Refusal → Meaning F
   fit : F → Meaning F
 
--- fit where a test passes
-abbrev pub fit_if : {F : Type 1} → Bool → Refusal → F → Meaning F
-fit_if true e m = fit m
-fit_if false e m = unfit e
-
 -- unfit by e where a test fails, and else as what follows
 abbrev pub unfit_unless : {F : Type 1} → Bool → Refusal → Meaning F → Meaning F
 unfit_unless true e M = M

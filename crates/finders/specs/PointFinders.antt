@@ -3,8 +3,9 @@ use Rattle.std.specs.Prelude.{◌≡◌, ℕ, ◌^◌, ◌≤◌, Bool, true, �
 use Rattle.finders.specs.declared.refusals.Refusal.{Refusal}
 use Rattle.finders.specs.declared.refusals.Refusal.TheVariants.{Length, Magnitude, Step}
 use Rattle.finders.specs.declared.points.PointShape.{PointShape}
-use Rattle.finders.specs.Meanings.{Meaning, fit, unfit, checked, answered, placed, Tells}
+use Rattle.finders.specs.Meanings.{Meaning, fit, unfit, Keeps, Agree, checked, answered, placed, Tells}
 use Rattle.finders.specs.Points.{distance, SmallResidues, within}
+use Rattle.finders.specs.Sizes.{list_checked}
 
 -- a fit finder: the cells of its points, the largest size of a reading, the largest step, its set, and the point that it
 -- picks for readings at a step
@@ -35,8 +36,7 @@ pub record PointLaws (m : PointFit) : Type 0 where
   pub residues_are_small : (rs : List ℤ) (q : ℕ) → Asked m rs q → SmallResidues q rs (m.pick rs q)
 
 abbrev pub Lawful : Meaning PointFit → Type 0
-Lawful (unfit e) = Unit {0}
-Lawful (fit m) = PointLaws m
+Lawful = Keeps PointLaws
 
 -- the two mean the same
 pub record SameFit (m n : PointFit) : Type 0 where
@@ -47,10 +47,7 @@ pub record SameFit (m n : PointFit) : Type 0 where
   pub same_picks : (rs : List ℤ) (q : ℕ) → m.pick rs q ≡ n.pick rs q
 
 abbrev pub Same : Meaning PointFit → Meaning PointFit → Type 0
-Same (unfit e) (unfit f) = e ≡ f
-Same (unfit e) (fit n) = ⊥
-Same (fit m) (unfit f) = ⊥
-Same (fit m) (fit n) = SameFit m n
+Same = Agree SameFit
 
 -- ---- what the questions answer: 0 where the finder is unfit
 
@@ -108,7 +105,7 @@ Outcome M rs q before after (Err e) = after ≡ before
 -- ---- what a test is refused for, first that applies
 
 abbrev pub test_checked : (width reading_limit : ℕ) → List ℤ → Result (Unit {0}) Refusal
-test_checked n l x = checked (length x == n) Length (checked (within l x) Magnitude (Ok tt))
+test_checked = list_checked
 
 -- what `contains` answers
 abbrev pub Contains : Meaning PointFit → List ℤ → Result Bool Refusal → Type 0

@@ -1,10 +1,11 @@
 -- What a finder of words means, the laws of that meaning, and what each of its calls answers.
-use Rattle.std.specs.Prelude.{◌≡◌, ℕ, ◌^◌, ◌<◌, ◌≤◌, Bool, true, List, length, ℤ, ◌≤ℤ◌, Ok, Err, Result, ◌==◌}
+use Rattle.std.specs.Prelude.{◌≡◌, ℕ, ◌^◌, ◌<◌, ◌≤◌, Bool, true, List, length, ℤ, ◌≤ℤ◌, Ok, Err, Result}
 use Rattle.finders.specs.declared.refusals.Refusal.{Refusal}
-use Rattle.finders.specs.declared.refusals.Refusal.TheVariants.{Length, Magnitude, Entry}
+use Rattle.finders.specs.declared.refusals.Refusal.TheVariants.{Entry}
 use Rattle.finders.specs.declared.words.WordShape.{WordShape}
 use Rattle.finders.specs.Meanings.{Meaning, fit, unfit, Keeps, Agree, checked, answered, Tells}
 use Rattle.finders.specs.Points.{within}
+use Rattle.finders.specs.Sizes.{list_checked}
 use Rattle.finders.specs.Words.{fits, correlation}
 
 -- a fit finder: the cells of its words, the largest size of a gain, its set, and the word that it picks for gains
@@ -63,7 +64,7 @@ Member (fit m) w = m.member w
 -- ---- what a find is refused for, first that applies
 
 abbrev pub find_checked : (width gain_limit : ℕ) → List ℤ → Result (Unit {0}) Refusal
-find_checked n l gs = checked (length gs == n) Length (checked (within l gs) Magnitude (Ok tt))
+find_checked = list_checked
 
 -- what `find` answers
 abbrev pub find_answer : Meaning WordFit → List ℤ → Result (ℕ × ℤ) Refusal

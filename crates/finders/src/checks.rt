@@ -1,5 +1,6 @@
 ghost use Rattle.std.specs.Prelude.{◌≡◌, not};
 ghost use Rattle.finders.specs.Points.{within};
+ghost use Rattle.finders.specs.Sizes.{width_checked, list_checked};
 ghost use Rattle.finders.specs.PointFinders.{find_checked, test_checked};
 ghost use Rattle.finders.specs.Words.{fits};
 ghost use Rattle.finders.specs.WordFinders.{find_checked as word_find_checked, test_checked as word_test_checked};
@@ -12,12 +13,17 @@ use super::words::WordShape;
 pub fn all_within(numbers: &[i32], limit: u32) -> bool
     ensures tells_whether_all_are_within { result ≡ within limit numbers.now }
 {
-    for number in numbers {
-        if number.unsigned_abs() > limit {
-            return false;
-        }
+    numbers.iter().all(|number| number.unsigned_abs() <= limit)
+}
+
+// What a number of cells is refused for.
+pub fn check_width(width: usize) -> Result<(), Refusal>
+    ensures is_refused_unless_in_range { result ≡ width_checked width }
+{
+    if width < 1 || width > MOST_CELLS {
+        return Err(Refusal::Width);
     }
-    true
+    Ok(())
 }
 
 // Whether a word has a digit 1 beyond so many cells.
@@ -27,17 +33,28 @@ pub fn has_digit_beyond(word: u32, width: usize) -> bool
     width < MOST_CELLS && word >> width != 0
 }
 
+// What a list is refused for that is to have so many numbers, none larger in size than a limit.
+fn check_list(numbers: &[i32], width: usize, limit: u32) -> Result<(), Refusal>
+    ensures is_the_first_refusal { result ≡ list_checked width limit numbers.now }
+{
+    if numbers.len() != width {
+        return Err(Refusal::Length);
+    }
+    if !all_within(numbers, limit) {
+        return Err(Refusal::Magnitude);
+    }
+    Ok(())
+}
+
 impl PointShape {
     // What a find of these readings at this step, into a place of that length, is refused for.
     pub fn check_find(self, readings: &[i32], step: u32, place_len: usize) -> Result<(), Refusal>
         ensures is_the_first_refusal { result ≡ find_checked self.width self.reading_limit self.step_limit readings.now step place_len }
     {
-        if readings.len() != self.width || place_len != self.width {
+        if place_len != self.width {
             return Err(Refusal::Length);
         }
-        if !all_within(readings, self.reading_limit) {
-            return Err(Refusal::Magnitude);
-        }
+        check_list(readings, self.width, self.reading_limit)?;
         if step < 1 || step > self.step_limit {
             return Err(Refusal::Step);
         }
@@ -48,13 +65,7 @@ impl PointShape {
     pub fn check_test(self, point: &[i32]) -> Result<(), Refusal>
         ensures is_the_first_refusal { result ≡ test_checked self.width self.reading_limit point.now }
     {
-        if point.len() != self.width {
-            return Err(Refusal::Length);
-        }
-        if !all_within(point, self.reading_limit) {
-            return Err(Refusal::Magnitude);
-        }
-        Ok(())
+        check_list(point, self.width, self.reading_limit)
     }
 }
 
@@ -63,13 +74,7 @@ impl WordShape {
     pub fn check_find(self, gains: &[i32]) -> Result<(), Refusal>
         ensures is_the_first_refusal { result ≡ word_find_checked self.width self.gain_limit gains.now }
     {
-        if gains.len() != self.width {
-            return Err(Refusal::Length);
-        }
-        if !all_within(gains, self.gain_limit) {
-            return Err(Refusal::Magnitude);
-        }
-        Ok(())
+        check_list(gains, self.width, self.gain_limit)
     }
 
     // What a test of this word is refused for.

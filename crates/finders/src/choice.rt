@@ -1,5 +1,7 @@
 ghost use Rattle.std.specs.Prelude.{◌≡◌, ◌≤◌, ◌⊎◌, List, [], ◌∷◌, ◌++◌, ◌≤ℤ◌, None, Decides};
-ghost use Rattle.finders.specs.Choice.{Chosen};
+ghost use Rattle.std.specs.Iterator.{IsFinite};
+ghost use Rattle.std.specs.Iterator.Runs.{CountFits, WholeRun};
+ghost use Rattle.finders.specs.Choice.{Chosen, numbered};
 ghost use Rattle.std.proofs.Common.{rules};
 
 // A score with a total order. `good a b` says that a is at least as good as b: of two scores one is, this carries along
@@ -70,12 +72,22 @@ impl<C: Copy, S: Score> FirstBest<C, S> {
     pub fn offer(&mut self, candidate: C, score: S)
         ensures holds_the_first_best { (offers : List (C × S)) → Chosen S.good offers self.old.held → Chosen S.good (offers ++ (candidate, score) ∷ []) self.new.held }
     {
-        let stays = match self.held {
-            Some((_, held)) => held.at_least(score),
-            None => false,
-        };
-        if !stays {
+        if !self.held.is_some_and(|(_, best)| best.at_least(score)) {
             self.held = Some((candidate, score));
         }
     }
+}
+
+// The index of the first best of some scores, with that score; none where there is no score.
+pub fn first_best<S: Score, I: Iterator<Item = S> + Drop>(scores: I) -> Option<(usize, S)>
+    requires can { I.can_next scores }
+    requires ends { IsFinite (I.remaining scores) }
+    requires few { CountFits I.next_gives I.remaining 0 scores }
+    ensures is_the_first_best { WholeRun I.next_gives scores (λ run. Chosen S.good (numbered 0 run.items) result) }
+{
+    let mut best = FirstBest::none();
+    for (i, score) in scores.enumerate() {
+        best.offer(i, score);
+    }
+    best.held
 }

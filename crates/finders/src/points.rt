@@ -37,37 +37,25 @@ pub trait PointFinder {
     fn fitness(&self) -> Result<(), Refusal>
         ensures tells_fitness { result ≡ fitness_of (meaning self.now) }
     {
-        match self.shape() {
-            Ok(_) => Ok(()),
-            Err(refusal) => Err(refusal),
-        }
+        self.shape().map(|_| ())
     }
 
     fn width(&self) -> usize
         ensures tells_the_width { result ≡ width_of (meaning self.now) }
     {
-        match self.shape() {
-            Ok(shape) => shape.width,
-            Err(_) => 0,
-        }
+        self.shape().map_or(0, |shape| shape.width)
     }
 
     fn reading_limit(&self) -> u32
         ensures tells_the_reading_limit { result ≡ reading_limit_of (meaning self.now) }
     {
-        match self.shape() {
-            Ok(shape) => shape.reading_limit,
-            Err(_) => 0,
-        }
+        self.shape().map_or(0, |shape| shape.reading_limit)
     }
 
     fn step_limit(&self) -> u32
         ensures tells_the_step_limit { result ≡ step_limit_of (meaning self.now) }
     {
-        match self.shape() {
-            Ok(shape) => shape.step_limit,
-            Err(_) => 0,
-        }
+        self.shape().map_or(0, |shape| shape.step_limit)
     }
 
     ghost lawful: { (x : Self) → Lawful (meaning x) };

@@ -29,28 +29,19 @@ pub trait WordFinder {
     fn fitness(&self) -> Result<(), Refusal>
         ensures tells_fitness { result ≡ fitness_of (meaning self.now) }
     {
-        match self.shape() {
-            Ok(_) => Ok(()),
-            Err(refusal) => Err(refusal),
-        }
+        self.shape().map(|_| ())
     }
 
     fn width(&self) -> usize
         ensures tells_the_width { result ≡ width_of (meaning self.now) }
     {
-        match self.shape() {
-            Ok(shape) => shape.width,
-            Err(_) => 0,
-        }
+        self.shape().map_or(0, |shape| shape.width)
     }
 
     fn gain_limit(&self) -> u32
         ensures tells_the_gain_limit { result ≡ gain_limit_of (meaning self.now) }
     {
-        match self.shape() {
-            Ok(shape) => shape.gain_limit,
-            Err(_) => 0,
-        }
+        self.shape().map_or(0, |shape| shape.gain_limit)
     }
 
     ghost lawful: { (x : Self) → Lawful (meaning x) };
