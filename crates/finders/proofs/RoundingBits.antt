@@ -1,5 +1,5 @@
 -- Rounding and residues as the machine works them out: values of 32 bits, computed in 64.
-use Rattle.std.proofs.Common.{◌≡◌, ℕ, ◌-◌, ◌*◌, ◌^◌, ◌<◌, ◌≤◌, ℤ, pos, ◌-ℤ◌, ◌*ℤ◌, nat_abs, sym, ◌∙◌, arith, w32, w64, SFits, to_z, of_z}
+use Rattle.std.proofs.Common.{◌≡◌, ℕ, ◌-◌, ◌*◌, ◌^◌, ◌<◌, ◌≤◌, ℤ, pos, ◌-ℤ◌, ◌*ℤ◌, nat_abs, sym, arith, w32, w64, SFits, to_z, of_z}
 use lib.Signed.{quot_z, rem_z}
 use Rattle.std.proofs.lemmas.Int.{to_z-of_z, ints}
 use Rattle.integers.specs.Nearest.{nearest, residue}
@@ -32,18 +32,14 @@ pub record Owed (q : ℕ) (r x s : ℤ) : Type 0 where
   pub towards_zero : TowardsZero q r x
 
 -- X and Y are what the machine has computed, and q is its step t
-pub delivered : (t q : ℕ) (r x s X Y : ℤ) → q ≡ t → 1 ≤ q → q < 2 ^ 32 → SFits w32 r → Rounds q (narrow r) x s → X ≡ x → Y ≡ s → SFits w32 X × SFits w32 Y × Owed t r (narrow X) (narrow Y)
+pub delivered : (t q : ℕ) (r x s X Y : ℤ) → q ≡ t → 1 ≤ q → q < 2 ^ 32 → SFits w32 r → Rounds q (narrow r) x s → X ≡ x → Y ≡ s → SFits w32 X × SFits w32 Y × Owed t r X Y
 delivered t q r x s X Y i h k f d e g =
     let p : narrow r ≡ r = to_z-of_z w32 r f in
     let n : x ≡ nearest q r = rw p at d.number in
     let l : s ≡ residue q r x = rw p at d.leaves in
     let m = nearest_near q r h in
-    let f_x : SFits w32 X = rw (e, n) (nearest_fits w32 q r h f) in
-    let f_y : SFits w32 Y = rw (g, l, n) (omega (arith, ints)) in
-    let a : narrow X ≡ x = to_z-of_z w32 X f_x ∙ e in
-    let b : narrow Y ≡ s = to_z-of_z w32 Y f_y ∙ g in
     let o : Owed q r x s = record { number = n; leaves = l; no_nearer = λ y. rw n (nearest_best q r y h); towards_zero = λ y c. is_least q r x y h (rw n (nearest_is q r h)) c } in
-    (f_x, f_y, rw (a, b, sym i) o)
+    (rw (e, n) (nearest_fits w32 q r h f), rw (g, l, n) (omega (arith, ints)), rw (e, g, sym i) o)
 
 -- what a number leaves; b times d fits 64 bits by a hair
 pub record Leaves (q : ℕ) (r x a b d : ℤ) : Type 0 where

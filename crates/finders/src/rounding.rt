@@ -1,4 +1,5 @@
-ghost use Rattle.std.specs.Prelude.{◌≡◌, ◌≤◌, max};
+ghost use Rattle.std.specs.Prelude.{◌≡◌, ◌≤◌, max, FitsSigned};
+ghost use Rattle.std.specs.Int.{w32};
 ghost use Rattle.integers.specs.Nearest.{nearest, residue as residue_at};
 ghost use Rattle.finders.specs.Rounding.{Division, NoNearer, TowardsZero, other_way};
 
@@ -30,20 +31,11 @@ pub fn round(reading: i32, step: u32) -> Rounded
     let (number, residue) = divide(reading, step);
     let step = i64::from(step);
     if 2 * residue > step {
-        Rounded {
-            number: (number + 1) as i32,
-            residue: (residue - step) as i32,
-        }
+        Rounded::of(number + 1, residue - step)
     } else if 2 * residue < -step {
-        Rounded {
-            number: (number - 1) as i32,
-            residue: (residue + step) as i32,
-        }
+        Rounded::of(number - 1, residue + step)
     } else {
-        Rounded {
-            number: number as i32,
-            residue: residue as i32,
-        }
+        Rounded::of(number, residue)
     }
 }
 
@@ -55,6 +47,19 @@ pub fn residue_of(reading: i32, step: u32, number: i32) -> i64
 }
 
 impl Rounded {
+    // Both of 64 bits, where they fit 32.
+    fn of(number: i64, residue: i64) -> Rounded
+        requires number_fits { FitsSigned w32 number }
+        requires residue_fits { FitsSigned w32 residue }
+        ensures number { result.number ≡ number }
+        ensures residue { result.residue ≡ residue }
+    {
+        Rounded {
+            number: number as i32,
+            residue: residue as i32,
+        }
+    }
+
     // The number on the other side of the reading; for residue zero the next away from zero, and from 0 it is 1.
     pub fn other_way(self) -> i64
         ensures is_the_other_way { result ≡ other_way self.residue self.number }
