@@ -1,5 +1,5 @@
 -- The meaning of a finder: fit, with what that brings, or unfit by the refusal that made it so.
-use Rattle.std.specs.Prelude.{◌≡◌, Bool, true, false, cond, Ok, Err, Decides, Result}
+use Rattle.std.specs.Prelude.{◌≡◌, ℕ, Bool, true, false, cond, Ok, Err, Decides, Result}
 use Rattle.finders.specs.declared.refusals.Refusal.{Refusal}
 
 pub data Meaning (F : Type 1) : Type 1 where
@@ -22,6 +22,11 @@ Agree Alike (unfit e) (unfit f) = e ≡ f
 Agree Alike (unfit e) (fit n) = ⊥
 Agree Alike (fit m) (unfit f) = ⊥
 Agree Alike (fit m) (fit n) = Alike m n
+
+-- what a question answers of a fit finder, and 0 where it is unfit
+abbrev pub or_zero : {F : Type 1} → (F → ℕ) → Meaning F → ℕ
+or_zero f (unfit e) = 0
+or_zero f (fit m) = f m
 
 abbrev pub fitness_of : {F : Type 1} → Meaning F → Result (Unit {0}) Refusal
 fitness_of (unfit e) = Err e

@@ -3,7 +3,7 @@ use Rattle.std.specs.Prelude.{◌≡◌, ℕ, ◌^◌, ◌≤◌, Bool, true, �
 use Rattle.finders.specs.declared.refusals.Refusal.{Refusal}
 use Rattle.finders.specs.declared.refusals.Refusal.TheVariants.{Length, Magnitude, Step}
 use Rattle.finders.specs.declared.points.PointShape.{PointShape}
-use Rattle.finders.specs.Meanings.{Meaning, fit, unfit, Keeps, Agree, checked, answered, placed, Tells}
+use Rattle.finders.specs.Meanings.{Meaning, fit, unfit, Keeps, Agree, or_zero, checked, answered, placed, Tells}
 use Rattle.finders.specs.Points.{distance, SmallResidues, within}
 use Rattle.finders.specs.Sizes.{list_checked}
 
@@ -49,23 +49,20 @@ pub record SameFit (m n : PointFit) : Type 0 where
 abbrev pub Same : Meaning PointFit → Meaning PointFit → Type 0
 Same = Agree SameFit
 
--- ---- what the questions answer: 0 where the finder is unfit
+-- ---- what the questions answer
 
 abbrev pub shape_of : Meaning PointFit → Result PointShape Refusal
 shape_of (unfit e) = Err e
 shape_of (fit m) = Ok (record { width = m.width; reading_limit = m.reading_limit; step_limit = m.step_limit })
 
 abbrev pub width_of : Meaning PointFit → ℕ
-width_of (unfit e) = 0
-width_of (fit m) = m.width
+width_of = or_zero (λ m. m.width)
 
 abbrev pub reading_limit_of : Meaning PointFit → ℕ
-reading_limit_of (unfit e) = 0
-reading_limit_of (fit m) = m.reading_limit
+reading_limit_of = or_zero (λ m. m.reading_limit)
 
 abbrev pub step_limit_of : Meaning PointFit → ℕ
-step_limit_of (unfit e) = 0
-step_limit_of (fit m) = m.step_limit
+step_limit_of = or_zero (λ m. m.step_limit)
 
 -- the set: empty where the finder is unfit
 abbrev pub Member : Meaning PointFit → List ℤ → Type 0

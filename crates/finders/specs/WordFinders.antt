@@ -3,7 +3,7 @@ use Rattle.std.specs.Prelude.{◌≡◌, ℕ, ◌^◌, ◌<◌, ◌≤◌, Bool,
 use Rattle.finders.specs.declared.refusals.Refusal.{Refusal}
 use Rattle.finders.specs.declared.refusals.Refusal.TheVariants.{Entry}
 use Rattle.finders.specs.declared.words.WordShape.{WordShape}
-use Rattle.finders.specs.Meanings.{Meaning, fit, unfit, Keeps, Agree, checked, answered, Tells}
+use Rattle.finders.specs.Meanings.{Meaning, fit, unfit, Keeps, Agree, or_zero, checked, answered, Tells}
 use Rattle.finders.specs.Points.{within}
 use Rattle.finders.specs.Sizes.{list_checked}
 use Rattle.finders.specs.Words.{fits, correlation}
@@ -42,19 +42,17 @@ pub record SameFit (m n : WordFit) : Type 0 where
 abbrev pub Same : Meaning WordFit → Meaning WordFit → Type 0
 Same = Agree SameFit
 
--- ---- what the questions answer: 0 where the finder is unfit
+-- ---- what the questions answer
 
 abbrev pub shape_of : Meaning WordFit → Result WordShape Refusal
 shape_of (unfit e) = Err e
 shape_of (fit m) = Ok (record { width = m.width; gain_limit = m.gain_limit })
 
 abbrev pub width_of : Meaning WordFit → ℕ
-width_of (unfit e) = 0
-width_of (fit m) = m.width
+width_of = or_zero (λ m. m.width)
 
 abbrev pub gain_limit_of : Meaning WordFit → ℕ
-gain_limit_of (unfit e) = 0
-gain_limit_of (fit m) = m.gain_limit
+gain_limit_of = or_zero (λ m. m.gain_limit)
 
 -- the set: empty where the finder is unfit
 abbrev pub Member : Meaning WordFit → ℕ → Type 0
