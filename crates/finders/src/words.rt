@@ -26,6 +26,8 @@ pub trait WordFinder {
     fn find(&self, gains: &[i32]) -> Result<(u32, i64), Refusal>
         ensures answers_the_pick_and_its_correlation { result ≡ find_answer (meaning self.now) gains.now };
 
+    // `fitness` and the questions below stand in `PointFinder` too, a line each: one trait above both would speak of an
+    // unknown kind of meaning, and each of the two would have to turn that into its own.
     fn fitness(&self) -> Result<(), Refusal>
         ensures tells_fitness { result ≡ fitness_of (meaning self.now) }
     {
