@@ -1,1 +1,1 @@
-pub mod Worst
+pub mod OneCell

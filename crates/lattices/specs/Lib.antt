@@ -5,5 +5,4 @@ pub mod DLaws
 pub mod RoundedCells
 pub mod WidestLaws
 pub mod Repair
-pub mod Parity
 pub mod ZLaws

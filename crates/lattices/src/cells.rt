@@ -1,9 +1,10 @@
-ghost use Rattle.std.specs.Prelude.{◌≡◌, ◌^◌, ◌≤◌, length};
-ghost use Rattle.finders.specs.Points.{distance};
+ghost use Rattle.std.specs.Prelude.{◌≡◌, ◌*◌, ◌^◌, ◌≤◌, true, length};
+ghost use Rattle.finders.specs.Points.{distance, within};
 ghost use Rattle.lattices.specs.LatticeZ.{rounded};
 ghost use Rattle.lattices.specs.Widest.{widest_shape};
 
-use finders::points::{MOST_CELLS, MOST_READING, MOST_STEP, PointShape};
+use finders::checks::check_width;
+use finders::points::{MOST_READING, MOST_STEP, PointShape};
 use finders::refusals::Refusal;
 use finders::rounding::round;
 
@@ -11,9 +12,7 @@ use finders::rounding::round;
 pub(super) fn shape_of(width: usize) -> Result<PointShape, Refusal>
     ensures { result ≡ widest_shape width }
 {
-    if width < 1 || width > MOST_CELLS {
-        return Err(Refusal::Width);
-    }
+    check_width(width)?;
     Ok(PointShape {
         width,
         reading_limit: MOST_READING,
@@ -21,21 +20,38 @@ pub(super) fn shape_of(width: usize) -> Result<PointShape, Refusal>
     })
 }
 
-// Rounds each reading into the place, and answers the squared distance.
-pub(super) fn round_cells(readings: &[i32], step: u32, place: &mut [i32]) -> u64
-    requires as_wide { length place.old ≡ length readings.now }
-    requires few_cells { length readings.now ≤ 32 }
-    requires some_step { 1 ≤ step }
-    requires small_step { step ≤ 2 ^ 20 }
-    ensures point { place.new ≡ rounded step readings.now }
-    ensures distance { result ≡ distance step readings.now (rounded step readings.now) }
+// The readings and the step of a find that is granted.
+#[derive(Drop)]
+pub(super) struct Group<'a> {
+    pub(super) readings: &'a [i32],
+    pub(super) step: u32,
+    ghost few_cells: { length readings.now ≤ 32 },
+    ghost small_readings: { within (2 ^ 30) readings.now ≡ true },
+    ghost some_step: { 1 ≤ step },
+    ghost small_step: { step ≤ 2 ^ 20 },
+}
+
+pub(super) fn square(size: u32) -> u64
+    ensures { result ≡ size * size }
 {
-    let mut distance: u64 = 0;
-    for (i, reading) in readings.iter().enumerate() {
-        let cell = round(*reading, step);
-        place[i] = cell.number;
-        let size = u64::from(cell.residue.unsigned_abs());
-        distance += size * size;
+    u64::from(size) * u64::from(size)
+}
+
+impl Group<'_> {
+    // Rounds each reading into the place, and answers the squared distance.
+    pub(super) fn round_into(&self, place: &mut [i32]) -> u64
+        requires as_wide { length place.old ≡ length self.now.readings.now }
+        ensures point { place.new ≡ rounded self.now.step self.now.readings.now }
+        ensures distance { result ≡ distance self.now.step self.now.readings.now (rounded self.now.step self.now.readings.now) }
+    {
+        // the readings stand in the place, and each gives way to its number
+        place.copy_from_slice(self.readings);
+        let mut distance = 0;
+        for coordinate in place.iter_mut() {
+            let cell = round(*coordinate, self.step);
+            *coordinate = cell.number;
+            distance += square(cell.residue.unsigned_abs());
+        }
+        distance
     }
-    distance
 }

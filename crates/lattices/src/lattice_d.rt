@@ -1,16 +1,14 @@
-ghost use Rattle.std.specs.Prelude.{◌≡◌, ◌^◌, ◌<◌, ◌≤◌, true, [], length, MatchOption, ◌==◌};
-ghost use Rattle.finders.specs.Points.{distance as distance_of, within};
+ghost use Rattle.std.specs.Prelude.{◌≡◌, ◌<◌, [], length, MatchOption, ◌==◌};
+ghost use Rattle.finders.specs.Points.{distance as distance_of};
 ghost use Rattle.lattices.specs.LatticeZ.{rounded};
 ghost use Rattle.lattices.specs.LatticeD.{lattice_d, parity, repaired, worst_cell};
 ghost use Rattle.lattices.specs.DLaws.{d_lawful};
 
-use super::cells::{round_cells, shape_of};
-use finders::choice::{FirstBest, Greatest};
+use super::cells::{Group, shape_of, square};
+use finders::choice::{Greatest, first_best};
 use finders::points::{PointFinder, PointShape, PointTester};
 use finders::refusals::Refusal;
 use finders::rounding::{residue_of, round};
-
-mod build;
 
 // The lattice D: the points with an even sum.
 #[derive(Clone, Copy)]
@@ -18,54 +16,52 @@ pub struct LatticeD {
     width: usize,
 }
 
+impl LatticeD {
+    ghost use Rattle.finders.specs.PointFinders.{Same};
+    ghost use Rattle.lattices.specs.contracts.lattice_d.LatticeDPointFinder.TheImpl.{ghosts};
+
+    // D of so many cells: fit for 1 to 32 of them.
+    pub fn new(width: usize) -> LatticeD
+        ensures means_the_lattice { Same (ghosts.meaning result) (lattice_d width) }
+    {
+        LatticeD { width }
+    }
+}
+
 // Whether the numbers of a point add to an even number.
 fn has_even_sum(point: &[i32]) -> bool
     ensures { result ≡ (parity point.now == 0) }
 {
-    let mut even = true;
-    for number in point {
-        if number % 2 != 0 {
-            even = !even;
-        }
-    }
-    even
+    point.iter().filter(|number| **number % 2 != 0).count() % 2 == 0
 }
 
-// The cell of the rounded point whose residue is largest in size, the first of equals; none where there is no cell.
-fn worst(readings: &[i32], step: u32, point: &[i32]) -> Option<usize>
-    requires some_step { 1 ≤ step }
-    requires rounded { point.now ≡ rounded step readings.now }
-    ensures { MatchOption result (readings.now ≡ []) (λ i. (i ≡ worst_cell step readings.now) × (i < length readings.now)) }
-{
-    let mut worst = FirstBest::none();
-    for (i, reading) in readings.iter().enumerate() {
-        worst.offer(i, Greatest(residue_of(*reading, step, point[i]).abs()));
+impl Group<'_> {
+    // The cell of the rounded point whose residue is largest in size, the first of equals; none where there is no cell.
+    fn worst(&self, point: &[i32]) -> Option<usize>
+        requires rounded { point.now ≡ rounded self.now.step self.now.readings.now }
+        ensures { MatchOption result (self.now.readings.now ≡ []) (λ i. (i ≡ worst_cell self.now.step self.now.readings.now) × (i < length self.now.readings.now)) }
+    {
+        let sizes = self.readings.iter().zip(point).map(|(reading, number)| {
+            Greatest(residue_of(*reading, self.step, *number).abs())
+        });
+        first_best(sizes).map(|(i, _)| i)
     }
-    match worst.held {
-        Some((i, _)) => Some(i),
-        None => None,
-    }
-}
 
-// Turns the worst cell of the rounded point the other way, and answers the squared distance that this gives.
-fn repair(readings: &[i32], step: u32, place: &mut [i32], distance: u64) -> u64
-    requires few_cells { length readings.now ≤ 32 }
-    requires some_step { 1 ≤ step }
-    requires small_step { step ≤ 2 ^ 20 }
-    requires small_readings { within (2 ^ 30) readings.now ≡ true }
-    requires rounded { place.old ≡ rounded step readings.now }
-    requires distance { distance ≡ distance_of step readings.now (rounded step readings.now) }
-    ensures point { place.new ≡ repaired step readings.now }
-    ensures distance { result ≡ distance_of step readings.now (repaired step readings.now) }
-{
-    let Some(i) = worst(readings, step, place) else {
-        return distance;
-    };
-    let cell = round(readings[i], step);
-    place[i] = cell.other_way() as i32;
-    let size = u64::from(cell.residue.unsigned_abs());
-    let rest = u64::from(step) - size;
-    distance - size * size + rest * rest
+    // Turns the worst cell of the rounded point the other way, and answers the squared distance that this gives.
+    fn repair(&self, place: &mut [i32], distance: u64) -> u64
+        requires rounded { place.old ≡ rounded self.now.step self.now.readings.now }
+        requires distance { distance ≡ distance_of self.now.step self.now.readings.now (rounded self.now.step self.now.readings.now) }
+        ensures point { place.new ≡ repaired self.now.step self.now.readings.now }
+        ensures distance { result ≡ distance_of self.now.step self.now.readings.now (repaired self.now.step self.now.readings.now) }
+    {
+        let Some(i) = self.worst(place) else {
+            return distance;
+        };
+        let cell = round(self.readings[i], self.step);
+        let size = cell.residue.unsigned_abs();
+        place[i] = cell.other_way() as i32;
+        distance - square(size) + square(self.step - size)
+    }
 }
 
 impl PointFinder for LatticeD {
@@ -79,11 +75,12 @@ impl PointFinder for LatticeD {
 
     fn find(&self, readings: &[i32], step: u32, place: &mut [i32]) -> Result<u64, Refusal> {
         self.shape()?.check_find(readings, step, place.len())?;
-        let distance = round_cells(readings, step, place);
+        let group = Group { readings, step };
+        let distance = group.round_into(place);
         if has_even_sum(place) {
             return Ok(distance);
         }
-        Ok(repair(readings, step, place, distance))
+        Ok(group.repair(place, distance))
     }
 }
 

@@ -1,16 +1,26 @@
 ghost use Rattle.lattices.specs.LatticeZ.{lattice_z};
 ghost use Rattle.lattices.specs.ZLaws.{z_lawful};
 
-use super::cells::{round_cells, shape_of};
+use super::cells::{Group, shape_of};
 use finders::points::{PointFinder, PointShape, PointTester};
 use finders::refusals::Refusal;
-
-mod build;
 
 // The lattice Z: every point of whole numbers.
 #[derive(Clone, Copy)]
 pub struct LatticeZ {
     width: usize,
+}
+
+impl LatticeZ {
+    ghost use Rattle.finders.specs.PointFinders.{Same};
+    ghost use Rattle.lattices.specs.contracts.lattice_z.LatticeZPointFinder.TheImpl.{ghosts};
+
+    // Z of so many cells: fit for 1 to 32 of them.
+    pub fn new(width: usize) -> LatticeZ
+        ensures means_the_lattice { Same (ghosts.meaning result) (lattice_z width) }
+    {
+        LatticeZ { width }
+    }
 }
 
 impl PointFinder for LatticeZ {
@@ -24,7 +34,7 @@ impl PointFinder for LatticeZ {
 
     fn find(&self, readings: &[i32], step: u32, place: &mut [i32]) -> Result<u64, Refusal> {
         self.shape()?.check_find(readings, step, place.len())?;
-        Ok(round_cells(readings, step, place))
+        Ok(Group { readings, step }.round_into(place))
     }
 }
 

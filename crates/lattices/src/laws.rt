@@ -1,13 +1,14 @@
 ghost use Rattle.std.specs.Prelude.{◌≡◌, ℕ, ◌≤◌, List, map, length, ℤ};
 ghost use Rattle.finders.specs.Points.{distance};
-ghost use Rattle.lattices.specs.LatticeD.{IsFirstLargest, left_over, worst_cell, parity, d_pick};
+ghost use Rattle.finders.specs.Choice.{IsFirst, no_smaller};
+ghost use Rattle.lattices.specs.LatticeD.{left_over, worst_cell, parity, d_pick};
 
 // Theorems on the definitions that the contracts of the lattices rest on. These functions do nothing: what counts is
 // that each is proved to meet its contract.
 
 // The worst cell is one of the group, no residue is larger in size than its own, and all earlier ones are smaller.
 pub fn worst_cell_is_the_first_of_the_largest()
-    ensures first_of_the_largest { (q : ℕ) (rs : List ℤ) → 1 ≤ length rs → IsFirstLargest (map (left_over q) rs) (worst_cell q rs) }
+    ensures first_of_the_largest { (q : ℕ) (rs : List ℤ) → 1 ≤ length rs → IsFirst no_smaller 0 (map (left_over q) rs) (worst_cell q rs) }
 {}
 
 // D's pick has an even sum, on exact levels too, where every residue is zero.

@@ -1,0 +1,44 @@
+-- One cell, as the machine rounds it: values of 32 bits.
+use Rattle.std.proofs.Common.{◌≡◌, ℕ, ◌+◌, ◌*◌, ◌^◌, ◌<◌, ◌≤◌, max, List, [], ◌∷◌, ◌++◌, length, get_or, take, set, ℤ, pos, nat_abs, sym, ap, ap₂, ◌∙◌, arith, w32, SFits, to_z, of_z}
+use Rattle.std.proofs.lemmas.List.{take_more, take_more_set, length-take, map_push}
+use Rattle.std.proofs.lemmas.Int.{to_z-of_z}
+use Rattle.integers.specs.Nearest.{nearest, residue}
+use Rattle.finders.specs.Points.{distance}
+use Rattle.finders.proofs.Distances.{distance_small, distance_push}
+use Rattle.lattices.specs.LatticeZ.{rounded}
+use Rattle.lattices.specs.LatticeD.{left_over}
+use Rattle.lattices.specs.RoundedCells.{length_rounded, near_rounded}
+
+-- what rounding gives is passed through 32 bits, at a step that is no less than 1
+pub record Told (q : ℕ) (z x s : ℤ) (n : ℕ) : Type 0 where
+  pub number : x ≡ nearest q z
+  pub residue : s ≡ residue q z (nearest q z)
+  pub size : n ≡ left_over q z
+
+pub round_told : (q : ℕ) (z x s : ℤ) (n : ℕ) → 1 ≤ q → SFits w32 z → SFits w32 s → x ≡ nearest (max q 1) (to_z w32 (of_z w32 z)) → s ≡ residue (max q 1) (to_z w32 (of_z w32 z)) x → n ≡ nat_abs (to_z w32 (of_z w32 s)) → Told q z x s n
+round_told q z x s n h f g e d a =
+    let m : max q 1 ≡ q = omega arith in
+    let t : to_z w32 (of_z w32 z) ≡ z = to_z-of_z w32 z f in
+    let number : x ≡ nearest q z = rw (m, t) at e in
+    let left : s ≡ residue q z (nearest q z) = (rw (m, t) at d) ∙ ap (residue q z) number in
+    record { number = number; residue = left; size = a ∙ ap nat_abs (to_z-of_z w32 s g ∙ left) }
+
+-- ---- one turn of the loop, at the reading with index i
+module _ (q : ℕ) (rs : List ℤ) (i : ℕ) (here : i < length rs) where
+  pub point_more : (place : List ℤ) (x : ℤ) → i < length place → x ≡ nearest q (get_or rs i (pos 0)) → take i place ≡ rounded q (take i rs) → take (i + 1) (set place i x) ≡ rounded q (take (i + 1) rs)
+  point_more place x room e f =
+      take_more_set place i x room ∙ ap₂ (λ (u : List ℤ) (v : ℤ). u ++ v ∷ []) f e
+      ∙ sym (map_push (nearest q) (take i rs) (get_or rs i (pos 0))) ∙ ap (rounded q) (sym (take_more rs i (pos 0) here))
+
+  pub distance_more : (d s : ℕ) → s ≡ left_over q (get_or rs i (pos 0)) → d ≡ distance q (take i rs) (rounded q (take i rs)) → d + s * s ≡ distance q (take (i + 1) rs) (rounded q (take (i + 1) rs))
+  distance_more d s e f =
+      let z = get_or rs i (pos 0) in
+      ap₂ (λ (a b : ℕ). a + b * b) f e
+      ∙ sym (distance_push q (take i rs) (rounded q (take i rs)) z (nearest q z) (length_rounded q (take i rs)))
+      ∙ ap (distance q (take i rs ++ z ∷ [])) (sym (map_push (nearest q) (take i rs) z))
+      ∙ ap (λ (v : List ℤ). distance q v (rounded q v)) (sym (take_more rs i (pos 0) here))
+
+pub distance_fits : (q i : ℕ) (rs : List ℤ) → 1 ≤ q → q ≤ 2 ^ 20 → length rs ≤ 32 → distance q (take i rs) (rounded q (take i rs)) ≤ 2 ^ 45
+distance_fits q i rs h k l =
+    let n : length (take i rs) ≤ 32 = simp length-take (omega arith) in
+    omega (arith, distance_small q (take i rs) (rounded q (take i rs)) (near_rounded q (take i rs) h k))
