@@ -1,6 +1,6 @@
 -- One cell, as the machine rounds it: values of 32 bits.
 use Rattle.std.proofs.Common.{◌≡◌, ℕ, ◌+◌, ◌*◌, ◌^◌, ◌<◌, ◌≤◌, max, List, [], ◌∷◌, ◌++◌, length, get_or, take, set, ℤ, pos, nat_abs, sym, ap, ap₂, ◌∙◌, arith, w32, SFits, to_z, of_z}
-use Rattle.std.proofs.lemmas.List.{take_more, take_more_set, length-take, map_push}
+use Rattle.std.proofs.lemmas.List.{take_more, take_more_set, length-take, map_more}
 use Rattle.std.proofs.lemmas.Int.{to_z-of_z}
 use Rattle.integers.specs.Nearest.{nearest, residue}
 use Rattle.finders.specs.Points.{distance}
@@ -25,18 +25,18 @@ round_told q z x s n h f g e d a =
 
 -- ---- one turn of the loop, at the reading with index i
 module _ (q : ℕ) (rs : List ℤ) (i : ℕ) (here : i < length rs) where
-  pub point_more : (place : List ℤ) (x : ℤ) → i < length place → x ≡ nearest q (get_or rs i (pos 0)) → take i place ≡ rounded q (take i rs) → take (i + 1) (set place i x) ≡ rounded q (take (i + 1) rs)
-  point_more place x room e f =
-      take_more_set place i x room ∙ ap₂ (λ (u : List ℤ) (v : ℤ). u ++ v ∷ []) f e
-      ∙ sym (map_push (nearest q) (take i rs) (get_or rs i (pos 0))) ∙ ap (rounded q) (sym (take_more rs i (pos 0) here))
+  rounded_more : rounded q (take (i + 1) rs) ≡ rounded q (take i rs) ++ nearest q (get_or rs i (pos 0)) ∷ []
+  rounded_more = map_more (nearest q) rs i (pos 0) here
 
-  pub distance_more : (d s : ℕ) → s ≡ left_over q (get_or rs i (pos 0)) → d ≡ distance q (take i rs) (rounded q (take i rs)) → d + s * s ≡ distance q (take (i + 1) rs) (rounded q (take (i + 1) rs))
-  distance_more d s e f =
-      let z = get_or rs i (pos 0) in
+  pub point_more : (place : List ℤ) (x : ℤ) → i < length place → x ≡ nearest q (get_or rs i (pos 0)) → take i place ≡ rounded q (take i rs) → take (i + 1) (set place i x) ≡ rounded q (take (i + 1) rs)
+  point_more place x room e f = take_more_set place i x room ∙ ap₂ (λ (u : List ℤ) (v : ℤ). u ++ v ∷ []) f e ∙ sym rounded_more
+
+  pub distance_more : (d n : ℕ) → n ≡ left_over q (get_or rs i (pos 0)) → d ≡ distance q (take i rs) (rounded q (take i rs)) → d + n * n ≡ distance q (take (i + 1) rs) (rounded q (take (i + 1) rs))
+  distance_more d n e f =
+      let r = get_or rs i (pos 0) in
       ap₂ (λ (a b : ℕ). a + b * b) f e
-      ∙ sym (distance_push q (take i rs) (rounded q (take i rs)) z (nearest q z) (length_rounded q (take i rs)))
-      ∙ ap (distance q (take i rs ++ z ∷ [])) (sym (map_push (nearest q) (take i rs) z))
-      ∙ ap (λ (v : List ℤ). distance q v (rounded q v)) (sym (take_more rs i (pos 0) here))
+      ∙ sym (distance_push q (take i rs) (rounded q (take i rs)) r (nearest q r) (length_rounded q (take i rs)))
+      ∙ sym (ap₂ (distance q) (take_more rs i (pos 0) here) rounded_more)
 
 pub distance_fits : (q i : ℕ) (rs : List ℤ) → 1 ≤ q → q ≤ 2 ^ 20 → length rs ≤ 32 → distance q (take i rs) (rounded q (take i rs)) ≤ 2 ^ 45
 distance_fits q i rs h k l =

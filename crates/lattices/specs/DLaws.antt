@@ -15,13 +15,13 @@ use Rattle.lattices.specs.Repair.{worst_stands, none_is_worse, turned_cost, othe
 by_parity : (q : ℕ) (rs : List ℤ) (P : List ℤ → Type 0) → (parity (rounded q rs) ≡ 0 → P (rounded q rs)) → ((parity (rounded q rs) ≢ 0) → P (repaired q rs)) → P (d_pick rs q)
 by_parity q rs P even odd = cond_both (parity (rounded q rs) == 0) (rounded q rs) (repaired q rs) P (λ e. even (eqb-true (parity (rounded q rs)) 0 e)) (λ e. odd (eqb-false (parity (rounded q rs)) 0 e))
 
-module _ (q : ℕ) (rs : List ℤ) (p : 1 ≤ q) (some : 1 ≤ length rs) where
-  repair_costs : (y : List ℤ) → length y ≡ length rs → (parity y ≢ parity (rounded q rs)) → distance q rs (repaired q rs) ≤ distance q rs y
-  repair_costs y l n =
-      let r = slice_index_or rs (worst_cell q rs) (pos 0) in
-      let turn = turn_costs q rs (worst_cell q rs) (worst_stands q rs some) p in
-      let other = other_parity_costs q (left_over q r) rs y p (none_is_worse q rs some) l n in
-      omega (arith, nearest_near q r p, turned_cost q (left_over q r) (omega (arith, nearest_near q r p)))
+repaired_is_nearest : (q : ℕ) (rs y : List ℤ) → 1 ≤ q → 1 ≤ length rs → length y ≡ length rs → (parity y ≢ parity (rounded q rs)) → distance q rs (repaired q rs) ≤ distance q rs y
+repaired_is_nearest q rs y p k l n =
+    let r = slice_index_or rs (worst_cell q rs) (pos 0) in
+    let near = nearest_near q r p in
+    let turn = turn_costs q rs (worst_cell q rs) (worst_stands q rs k) p in
+    let other = other_parity_costs q (left_over q r) rs y p (none_is_worse q rs k) l n in
+    omega (arith, turned_cost q (left_over q r) (omega arith))
 
 pub pick_is_even : (q : ℕ) (rs : List ℤ) → 1 ≤ length rs → parity (d_pick rs q) ≡ 0
 pick_is_even q rs k = by_parity q rs (λ x. parity x ≡ 0) (λ e. e) (λ o. let t = turn_changes_parity q rs (worst_cell q rs) (worst_stands q rs k) in omega arith)
@@ -29,7 +29,7 @@ pick_is_even q rs k = by_parity q rs (λ x. parity x ≡ 0) (λ e. e) (λ o. let
 pub none_is_nearer : (q : ℕ) (rs y : List ℤ) → 1 ≤ q → 1 ≤ length rs → length y ≡ length rs → parity y ≡ 0 → distance q rs (d_pick rs q) ≤ distance q rs y
 none_is_nearer q rs y p k l e = by_parity q rs (λ x. distance q rs x ≤ distance q rs y)
     (λ _. rounded_is_nearest q rs y p l)
-    (λ o. repair_costs q rs p k y l (λ f. o (sym f ∙ e)))
+    (λ o. repaired_is_nearest q rs y p k l (λ f. o (sym f ∙ e)))
 
 pub d_lawful : (n : ℕ) → Lawful (lattice_d n)
 d_lawful n = widest_lawful n (λ x. (length x ≡ n) × (parity x ≡ 0)) d_pick

@@ -1,13 +1,11 @@
-use Rattle.std.proofs.Common.{◌≡◌, ◌+◌, ◌-◌, ◌*◌, ◌^◌, ◌≤◌, List, get_or, set, ℤ, pos, nat_abs, ap, ap₂, ◌∙◌, mul-le-mul, arith, w32, w64, SFits, to_z, of_z, rules}
+use Rattle.std.proofs.Common.{◌≡◌, ◌+◌, ◌-◌, ◌*◌, ◌^◌, ◌≤◌, List, get_or, set, ℤ, pos, nat_abs, ap, ap₂, ◌∙◌, arith, w32, w64, SFits, to_z, of_z, rules}
 use Rattle.std.proofs.lemmas.Int.{ints}
 use Rattle.integers.proofs.Nearest.{nearest_near}
 use Rattle.finders.specs.Points.{distance as distance_of}
 use Rattle.finders.specs.Rounding.{other_way, turned}
 use Rattle.finders.proofs.Distances.{distance_small}
-use Rattle.lattices.specs.LatticeZ.{rounded}
 use Rattle.lattices.specs.LatticeD.{turned_at, repaired}
-use Rattle.lattices.specs.RoundedCells.{near_rounded}
-use Rattle.lattices.specs.Repair.{turn_costs, turned_small}
+use Rattle.lattices.specs.Repair.{turn_costs, turned_small, near_turned}
 use Rattle.lattices.proofs.OneCell.{Told, round_told}
 use Rattle.lattices.proofs.cells.Group.repair.Goals as goal
 use Rattle.lattices.proofs.cells.Group.repair.Goals.{After-other_way}
@@ -24,14 +22,17 @@ turn c = c.other_way.ensures.is_the_other_way ∙ ap₂ other_way (cell c).resid
 small : (c : After-other_way) → nat_abs c.other_way.result ≤ 2 ^ 30 + 1
 small c = rw (turn c) (turned_small c.args.self.now.step c.args.self.now.readings.now c.in-Some.i c.in-Some.ensures.1 c.args.self.now.some_step c.args.self.now.small_readings)
 
-costs : (c : After-other_way) → let q = c.args.self.now.step in let rs = c.args.self.now.readings.now in let n = c.unsigned_abs-size.result in
-    (n ≤ q) × (n * n ≤ c.args.distance) × (distance_of q rs (repaired q rs) + n * n ≡ c.args.distance + (q - n) * (q - n))
+-- the distance after the turn, which is small
+costs : (c : After-other_way) → let q = c.args.self.now.step in let n = c.unsigned_abs-size.result in let after = distance_of q c.args.self.now.readings.now (repaired q c.args.self.now.readings.now) in
+    (n ≤ q) × (n * n ≤ c.args.distance) × (after + n * n ≡ c.args.distance + (q - n) * (q - n)) × (after ≤ 2 ^ 45)
 costs c =
     let q = c.args.self.now.step in
     let rs = c.args.self.now.readings.now in
-    let r = get_or rs c.in-Some.i (pos 0) in
-    let t = rw (← (cell c).size, ← c.requires.distance) at (turn_costs q rs c.in-Some.i c.in-Some.ensures.1 c.args.self.now.some_step) in
-    (omega (arith, (cell c).size, nearest_near q r c.args.self.now.some_step), t.0, rw c.in-Some.ensures.0 at t.1)
+    let here = c.in-Some.ensures.1 in
+    let some = c.args.self.now.some_step in
+    let t = rw (← (cell c).size, ← c.requires.distance) at (turn_costs q rs c.in-Some.i here some) in
+    let d : distance_of q rs (turned_at q rs c.in-Some.i) ≤ 2 ^ 45 = omega (arith, distance_small q rs (turned_at q rs c.in-Some.i) (near_turned q rs c.in-Some.i here some c.args.self.now.small_step)) in
+    (omega (arith, (cell c).size, nearest_near q (get_or rs c.in-Some.i (pos 0)) some), t.0, rw c.in-Some.ensures.0 at t.1, rw c.in-Some.ensures.0 at d)
 
 cast : (t : ℤ) → nat_abs t ≤ 2 ^ 30 + 1 → to_z w32 (of_z w32 (to_z w64 (of_z w64 t))) ≡ t
 cast t h = omega (arith, ints)
@@ -46,12 +47,7 @@ pub overflow_sub-result : goal.overflow_sub-result
 overflow_sub-result c = rw c.square.ensures (costs (goal.at.overflow_sub-result c).After-other_way).1
 
 pub overflow_add-result : goal.overflow_add-result
-overflow_add-result c =
-    let q = c.args.self.now.step in
-    let rs = c.args.self.now.readings.now in
-    let d = distance_small q rs (rounded q rs) (near_rounded q rs c.args.self.now.some_step c.args.self.now.small_step) in
-    let t : q - c.unsigned_abs-size.result ≤ 2 ^ 20 = omega (arith, c.args.self.now.small_step) in
-    omega (arith, mul-le-mul t t, c.requires.distance, c.square-2.ensures, c.args.self.now.few_cells)
+overflow_add-result c = let t = costs (goal.at.overflow_add-result c).After-other_way in omega (arith, c.square.ensures, c.square-2.ensures, t.1, t.2, t.3)
 
 pub returns-clause-point : goal.returns-clause-point
 returns-clause-point c =
