@@ -20,7 +20,7 @@ use Rattle.finders.proofs.RoundingLaws.{turned_left, other_way_apart}
 use Rattle.finders.proofs.Scores.{no_smaller_total, no_smaller_chain}
 use Rattle.finders.proofs.Within.{within_at}
 use Rattle.lattices.specs.LatticeZ.{rounded}
-use Rattle.lattices.specs.LatticeD.{parity, left_over, worst_cell, turned_at}
+use Rattle.lattices.specs.LatticeD.{parity, left_over, worst_cell, turned_at, repaired}
 use Rattle.lattices.specs.RoundedCells.{length_rounded, near_rounded, rounded_is_nearest}
 
 -- ---- the worst cell
@@ -50,13 +50,13 @@ turned_cost q s h = let e : s + (q - s) ≡ q = omega arith in rw e at (trade s 
 parity_cons : (x s : ℤ) → unsigned_abs (x +ℤ s) % 2 ≡ (unsigned_abs x + unsigned_abs s % 2) % 2
 parity_cons x s = omega (arith, ints)
 
--- no residue of the rounded point is larger in size than m: then a point of another parity differs from it in a cell, and costs
+-- where no residue of the rounded point is larger in size than m: a point of another parity differs from it in a cell, and costs
 -- at least as much as a turn at the size m
-pub other_parity_costs : (q m : ℕ) (rs ys : List ℤ) → 1 ≤ q → AllByRecursion (λ r. left_over q r ≤ m) rs → length ys ≡ length rs → (parity ys ≢ parity (rounded q rs)) → distance q rs (rounded q rs) + q * q ≤ distance q rs ys + 2 * (q * m)
-other_parity_costs q m [] [] p a e n = absurd (n refl)
-other_parity_costs q m [] (y ∷ ys) p a e n = absurd (omega arith)
-other_parity_costs q m (r ∷ rs) [] p a e n = absurd (omega arith)
-other_parity_costs q m (r ∷ rs) (y ∷ ys) p a e n = go (ℤ_discrete y (nearest q r)) (other_parity_costs q m rs ys p a.1 (omega arith))
+apart_costs : (q m : ℕ) (rs ys : List ℤ) → 1 ≤ q → AllByRecursion (λ r. left_over q r ≤ m) rs → length ys ≡ length rs → (parity ys ≢ parity (rounded q rs)) → distance q rs (rounded q rs) + q * q ≤ distance q rs ys + 2 * (q * m)
+apart_costs q m [] [] p a e n = absurd (n refl)
+apart_costs q m [] (y ∷ ys) p a e n = absurd (omega arith)
+apart_costs q m (r ∷ rs) [] p a e n = absurd (omega arith)
+apart_costs q m (r ∷ rs) (y ∷ ys) p a e n = go (ℤ_discrete y (nearest q r)) (apart_costs q m rs ys p a.1 (omega arith))
   where
     go : Dec (y ≡ nearest q r) → ((parity ys ≢ parity (rounded q rs)) → distance q rs (rounded q rs) + q * q ≤ distance q rs ys + 2 * (q * m)) → distance q (r ∷ rs) (rounded q (r ∷ rs)) + q * q ≤ distance q (r ∷ rs) (y ∷ ys) + 2 * (q * m)
     go (yes d) ih =
@@ -109,3 +109,33 @@ module _ (q : ℕ) (rs : List ℤ) (i : ℕ) (here : i < length rs) where
       let r = slice_index_or rs i (pos 0) in
       let b = within_at (2 ^ 30) rs i k here in let n = nearest_small q r p in let a = other_way_apart (residue q r (nearest q r)) (nearest q r) in
       omega (arith, ints)
+
+-- ---- the worst cell turned
+
+-- the size of the largest residue of the rounded point
+abbrev pub worst_size : ℕ → List ℤ → ℕ
+worst_size q rs = left_over q (slice_index_or rs (worst_cell q rs) (pos 0))
+
+pub left_over_small : (q : ℕ) (r : ℤ) → 1 ≤ q → 2 * left_over q r ≤ q
+left_over_small q r h = nearest_near q r h
+
+-- what the repair adds to the distance
+pub repair_costs : (q : ℕ) (rs : List ℤ) → 1 ≤ q → 1 ≤ length rs → distance q rs (repaired q rs) + 2 * (q * worst_size q rs) ≡ distance q rs (rounded q rs) + q * q
+repair_costs q rs p k =
+    let small = left_over_small q (slice_index_or rs (worst_cell q rs) (pos 0)) p in
+    omega (arith, turn_costs q rs (worst_cell q rs) (worst_stands q rs k) p, turned_cost q (worst_size q rs) (omega arith))
+
+-- a point of another parity than the rounded one adds no less
+pub other_parity_costs : (q : ℕ) (rs ys : List ℤ) → 1 ≤ q → length ys ≡ length rs → (parity ys ≢ parity (rounded q rs)) → distance q rs (rounded q rs) + q * q ≤ distance q rs ys + 2 * (q * worst_size q rs)
+other_parity_costs q [] ys p e n = apart_costs q (worst_size q []) [] ys p tt e n
+other_parity_costs q (r ∷ rs) ys p e n = apart_costs q (worst_size q (r ∷ rs)) (r ∷ rs) ys p (none_is_worse q (r ∷ rs) (omega arith)) e n
+
+-- the repair turns the parity
+pub repair_turns : (q : ℕ) (rs : List ℤ) → 1 ≤ length rs → (parity (repaired q rs) + parity (rounded q rs)) ≡ 1
+repair_turns q rs k = turn_changes_parity q rs (worst_cell q rs) (worst_stands q rs k)
+
+pub near_repaired : (q : ℕ) (rs : List ℤ) → 1 ≤ q → q ≤ 2 ^ 20 → 1 ≤ length rs → SmallResidues q rs (repaired q rs)
+near_repaired q rs p t k = near_turned q rs (worst_cell q rs) (worst_stands q rs k) p t
+
+pub length_repaired : (q : ℕ) (rs : List ℤ) → length (repaired q rs) ≡ length rs
+length_repaired q rs = length_turned q rs (worst_cell q rs)
