@@ -1,5 +1,5 @@
 -- Words of the Reed-Muller code by their halves, as the machine builds and tests them.
-use Rattle.std.proofs.Common.{◌≡◌, ℕ, suc, ◌+◌, ◌-◌, ◌*◌, ◌/◌, ◌%◌, ◌^◌, ◌<◌, ◌≤◌, Bool, false, ◌⊎◌, List, [], ◌++◌, map, length, Decides, sym, refl, ap, ◌∙◌, ap₂, inl, inr, mod-eq_of_lt, suc-mul, arith, pow_pos, pow_mono, pow-add}
+use Rattle.std.proofs.Common.{◌≡◌, ℕ, suc, ◌+◌, ◌-◌, ◌*◌, ◌/◌, ◌%◌, ◌^◌, ◌<◌, ◌≤◌, Bool, false, ◌⊎◌, List, ◌++◌, map, length, Decides, sym, refl, ap, ◌∙◌, ap₂, inl, inr, mod-eq_of_lt, mod-lt, suc-mul, arith, pow_pos, pow_mono, pow-add}
 use mathlib.Core.List.{map-append}
 use native.Mathlib.Nat.{mod-eq-sub-mod}
 use lib.Bits.{bit_or}
@@ -8,14 +8,15 @@ use Rattle.std.proofs.lemmas.Nat.{one_shl, shl_whole, or_comm, or_shifted, shr_h
 use Rattle.std.proofs.lemmas.List.{length-map}
 use Rattle.std.proofs.lemmas.Bool.{cases_lt, both_ways}
 use Rattle.codes.specs.Digits.{word, reversed}
-use Rattle.codes.specs.ReedMuller.{row, row_word, complement, Codeword}
+use Rattle.codes.specs.ReedMuller.{row, row_word, Codeword}
 use Rattle.codes.specs.DigitLaws.{Digit, word_below, word_append}
+use Rattle.codes.specs.ReedMullerLaws.{row_below}
 use Rattle.codes.specs.RowLaws.{row_digits, length_row, reversed_digits, reversed_word, row_low, row_high, double}
 
 -- ---- a word with each digit reversed
 
 -- all ones of n cells, as the machine has them
-all_ones : (n : ℕ) → n ≤ 32 → 4294967295 / 2 ^ (32 - n) ≡ 2 ^ n - 1
+pub all_ones : (n : ℕ) → n ≤ 32 → 4294967295 / 2 ^ (32 - n) ≡ 2 ^ n - 1
 all_ones n h =
     let w = 2 ^ (32 - n) in
     let k : n + (32 - n) ≡ 32 = omega arith in
@@ -24,12 +25,6 @@ all_ones n h =
     let cut : suc (2 ^ n - 1) ≡ 2 ^ n = omega arith in
     let parts : (2 ^ n - 1) * w + (w - 1) ≡ 4294967295 = omega (arith, rw cut at (suc-mul (2 ^ n - 1) w), pow_pos (32 - n)) in
     rw (sym parts) (div-mul-add (2 ^ n - 1) w (w - 1) (omega (arith, pow_pos (32 - n))))
-
-pub reverse_can : (n w : ℕ) → n ≤ 32 → w < 2 ^ n → w ≤ 4294967295 / 2 ^ (32 - n)
-reverse_can n w h k = rw (all_ones n h) (omega arith)
-
-pub reverse_is : (n w : ℕ) → n ≤ 32 → 4294967295 / 2 ^ (32 - n) - w ≡ 2 ^ n - 1 - w
-reverse_is n w h = ap (λ (v : ℕ). v - w) (all_ones n h)
 
 -- ---- a word of two halves of n cells
 
@@ -40,214 +35,169 @@ module _ (n : ℕ) (ds es : List ℕ) (h : AllByRecursion Digit ds) (e : length 
   joined : word (ds ++ es) ≡ word es * 2 ^ n + word ds
   joined = word_append ds es ∙ ap (λ (k : ℕ). word es * 2 ^ k + word ds) e
 
-  pub low_part : word (ds ++ es) % 2 ^ n ≡ word ds
+  low_part : word (ds ++ es) % 2 ^ n ≡ word ds
   low_part = rw joined (mod_low (word es) n (word ds) below)
 
-  pub high_part : word (ds ++ es) / 2 ^ n ≡ word es
+  high_part : word (ds ++ es) / 2 ^ n ≡ word es
   high_part = rw joined (shr_high (word es) n (word ds) below)
 
-  -- a word with these halves
-  pub from_parts : (w : ℕ) → w % 2 ^ n ≡ word ds → w / 2 ^ n ≡ word es → w ≡ word (ds ++ es)
+  from_parts : (w : ℕ) → w % 2 ^ n ≡ word ds → w / 2 ^ n ≡ word es → w ≡ word (ds ++ es)
   from_parts w l k = sym (div-add-mod' w (2 ^ n)) ∙ ap₂ (λ (x y : ℕ). x * 2 ^ n + y) k l ∙ sym joined
 
--- ---- a row of twice the cells
+-- half the cells leave room for both halves
+pub half_few : (M m n : ℕ) → M ≤ 5 → M ≡ m + 1 → n ≡ 2 ^ m → n ≤ 16
+half_few M m n few whole half = rw half (pow_mono {i = m} {j = 4} (omega arith))
 
--- its lower half is a row, and so is its upper half, or that reversed
-pub record Halves (m a : ℕ) : Type 0 where
-  pub b : ℕ
-  pub is_b : b ≡ a % 2 ^ m
-  pub stands : b < 2 ^ m
-  pub halves : ((a < 2 ^ m) × (row (suc m) a ≡ row m b ++ row m b)) ⊎ ((2 ^ m ≤ a) × (row (suc m) a ≡ row m b ++ map reversed (row m b)))
+pub half_power : (m n : ℕ) → n ≤ 16 → n ≡ 2 ^ m → (1 * 2 ^ n) % 2 ^ 32 ≡ 2 ^ (2 ^ m)
+half_power m n few half = one_shl n 32 (omega arith) ∙ ap (λ (k : ℕ). 2 ^ k) half
 
-pub row_halves : (m a : ℕ) → a < 2 ^ suc m → Halves m a
-row_halves m a h = elim (cases_lt a (2 ^ m)) [
-  | inl k ↦ record { b = a; is_b = sym (mod-eq_of_lt k); stands = k; halves = inl (k, row_low m a k) }
-  | inr k ↦
+-- ---- the word of a row of 2^(m + 1) cells from its halves, as the machine joins them
+
+module _ (m a : ℕ) where
+  row_doubled : a < 2 ^ m → row (suc m) a ≡ row m (a % 2 ^ m) ++ row m (a % 2 ^ m)
+  row_doubled h = rw (mod-eq_of_lt h) (row_low m a h)
+
+  row_crossed : 2 ^ m ≤ a → a < 2 ^ suc m → row (suc m) a ≡ row m (a % 2 ^ m) ++ map reversed (row m (a % 2 ^ m))
+  row_crossed k h =
       let s : a - 2 ^ m < 2 ^ m = omega (arith, double m) in
       let e : 2 ^ m + (a - 2 ^ m) ≡ a = omega arith in
-      record { b = a - 2 ^ m; is_b = sym (mod-eq-sub-mod k ∙ mod-eq_of_lt s); stands = s; halves = inr (k, rw e at (row_high m (a - 2 ^ m) s)) }
-]
+      let b : a % 2 ^ m ≡ a - 2 ^ m = mod-eq-sub-mod k ∙ mod-eq_of_lt s in
+      rw b (rw e at (row_high m (a - 2 ^ m) s))
 
--- ---- as the machine does it: h is half of the cells
+pub row_joined : (M m n a low high : ℕ) → M ≤ 5 → M ≡ m + 1 → n ≡ 2 ^ m → a < 2 ^ M → low ≡ row_word m (a % n) → ((a < n) × (high ≡ low)) ⊎ ((n ≤ a) × (high ≡ 2 ^ (2 ^ m) - 1 - low)) → bit_or low ((high * 2 ^ n) % 2 ^ 32) ≡ row_word M a
+row_joined M m n a low high few whole half stands is_low is_high = rw (half, up) (go (rw half at is_high))
+  where
+    up : M ≡ suc m
+    up = omega arith
 
-pub cells_are : (m : ℕ) → m ≤ 5 → ((1 * 2 ^ m) % 2 ^ 32 ≡ 2 ^ m) × (1 ≤ 2 ^ m) × (2 ^ m ≤ 32)
-cells_are m h = (one_shl m 32 (omega arith), pow_pos m, pow_mono h)
+    ds : List ℕ
+    ds = row m (a % 2 ^ m)
 
--- a code of more than one cell, and half of its cells
-pub record Half (m h : ℕ) : Type 0 where
-  pub some : m ≡ 0 → ⊥
-  pub few : m ≤ 5
-  pub half : h ≡ 2 ^ (m - 1)
+    wide : length ds ≡ 2 ^ m
+    wide = length_row m (a % 2 ^ m)
 
-module _ (m h : ℕ) (given : Half m h) where
-  m_below : suc (m - 1) ≡ m
-  m_below = let n = given.some in omega arith
-
-  pub half_small : h ≤ 16
-  half_small = rw given.half (pow_mono {i = m - 1} {j = 4} (omega (arith, given.few)))
-
-  pub half_power : (1 * 2 ^ h) % 2 ^ 32 ≡ 2 ^ h
-  half_power = one_shl h 32 (omega (arith, half_small))
-
-  row_wide : (a : ℕ) → length (row (m - 1) a) ≡ h
-  row_wide a = length_row (m - 1) a ∙ sym given.half
-
-  reversed_wide : (ds : List ℕ) → length ds ≡ h → length (map reversed ds) ≡ h
-  reversed_wide ds e = length-map ds reversed ∙ e
-
-  -- a row from its halves
-  module _ (a low : ℕ) (stands : a < 2 ^ m) (is_low : low ≡ row_word (m - 1) (a % h)) where
-    its : Halves (m - 1) a
-    its = row_halves (m - 1) a (rw m_below stands)
-
-    low_is : low ≡ row_word (m - 1) its.b
-    low_is = is_low ∙ ap (λ (n : ℕ). row_word (m - 1) (a % n)) given.half ∙ ap (row_word (m - 1)) (sym its.is_b)
-
-    pub low_below : low < 2 ^ h
-    low_below = rw low_is (below h (row (m - 1) its.b) [] (row_digits (m - 1) its.b) (row_wide its.b))
+    low_is : low ≡ word ds
+    low_is = rw half at is_low
 
     -- the digits of the upper half are es
-    join : (high : ℕ) (es : List ℕ) → AllByRecursion Digit es → length es ≡ h → high ≡ word es → row (suc (m - 1)) a ≡ row (m - 1) its.b ++ es → bit_or low ((high * 2 ^ h) % 2 ^ 32) ≡ row_word m a
-    join high es d e i r =
-        let b : high < 2 ^ h = rw i (below h es [] d e) in
-        let k : h + h ≤ 32 = omega (arith, half_small) in
-        rw (shl_whole high h h 32 b k, or_comm, or_shifted high h low low_below)
-        (ap₂ (λ (x y : ℕ). x * 2 ^ h + y) i low_is ∙ sym (joined h (row (m - 1) its.b) es (row_digits (m - 1) its.b) (row_wide its.b)) ∙ ap word (sym r) ∙ ap (λ (j : ℕ). row_word j a) m_below)
+    join : (es : List ℕ) → AllByRecursion Digit es → length es ≡ 2 ^ m → high ≡ word es → row (suc m) a ≡ ds ++ es → bit_or low ((high * 2 ^ (2 ^ m)) % 2 ^ 32) ≡ row_word (suc m) a
+    join es d e i r =
+        let few_cells = half_few M m (2 ^ m) few whole refl in
+        let b : low < 2 ^ (2 ^ m) = rw low_is (row_below m (a % 2 ^ m)) in
+        let k : high < 2 ^ (2 ^ m) = rw i (below (2 ^ m) es es d e) in
+        rw (shl_whole high (2 ^ m) (2 ^ m) 32 k (omega arith), or_comm, or_shifted high (2 ^ m) low b, i, low_is, r, word_append ds es, wide)
 
-    pub same_halves : a < h → bit_or low ((low * 2 ^ h) % 2 ^ 32) ≡ row_word m a
-    same_halves k = let e = given.half in elim its.halves [
-      | inl p ↦ join low (row (m - 1) its.b) (row_digits (m - 1) its.b) (row_wide its.b) low_is p.1
-      | inr p ↦ absurd (omega (arith, p.0))
-    ]
+    go : ((a < 2 ^ m) × (high ≡ low)) ⊎ ((2 ^ m ≤ a) × (high ≡ 2 ^ (2 ^ m) - 1 - low)) → bit_or low ((high * 2 ^ (2 ^ m)) % 2 ^ 32) ≡ row_word (suc m) a
+    go (inl p) = join ds (row_digits m (a % 2 ^ m)) wide (p.1 ∙ low_is) (row_doubled m a p.0)
+    go (inr p) = join (map reversed ds) (reversed_digits ds) (length-map ds reversed ∙ wide) (p.1 ∙ ap (λ (v : ℕ). 2 ^ (2 ^ m) - 1 - v) low_is ∙ sym (reversed_word ds (2 ^ m) (row_digits m (a % 2 ^ m)) wide)) (row_crossed m a p.0 (rw up at stands))
 
-    pub reversed_halves : h ≤ a → (high : ℕ) → high ≡ 2 ^ h - 1 - low → bit_or low ((high * 2 ^ h) % 2 ^ 32) ≡ row_word m a
-    reversed_halves k high i = let e = given.half in elim its.halves [
-      | inl p ↦ absurd (omega (arith, p.0))
-      | inr p ↦
-          let ds = row (m - 1) its.b in
-          join high (map reversed ds) (reversed_digits ds) (reversed_wide ds (row_wide its.b)) (i ∙ ap (λ (v : ℕ). 2 ^ h - 1 - v) low_is ∙ sym (reversed_word ds h (row_digits (m - 1) its.b) (row_wide its.b))) p.1
-    ]
+-- ---- the digits of a word or a complement, from their halves
 
-  -- ---- a member from its halves
+abbrev Row : ℕ → List ℕ → Type 0
+Row m ds = (a : ℕ) × (a < 2 ^ m) × ((ds ≡ row m a) ⊎ (ds ≡ map reversed (row m a)))
 
-  module _ (w : ℕ) where
-    -- a row of half the cells, and that reversed
-    abbrev pub half_row : ℕ → List ℕ
-    half_row b = row (m - 1) b
+row_is_digits : (m : ℕ) (ds : List ℕ) → Row m ds → AllByRecursion Digit ds
+row_is_digits m ds (a, h, inl e) = rw e (row_digits m a)
+row_is_digits m ds (a, h, inr e) = rw e (reversed_digits (row m a))
 
-    abbrev pub reversed_row : ℕ → List ℕ
-    reversed_row b = map reversed (row (m - 1) b)
+row_is_wide : (m : ℕ) (ds : List ℕ) → Row m ds → length ds ≡ 2 ^ m
+row_is_wide m ds (a, h, inl e) = rw e (length_row m a)
+row_is_wide m ds (a, h, inr e) = rw (e, length-map (row m a) reversed) (length_row m a)
 
-    -- the digits ds make the lower half, and the upper half is the same or reversed
-    abbrev pub Split : List ℕ → Type 0
-    Split ds = (w % 2 ^ h ≡ word ds) × ((w / 2 ^ h ≡ w % 2 ^ h) ⊎ (w / 2 ^ h ≡ 2 ^ h - 1 - w % 2 ^ h))
+codeword : (m : ℕ) (ds : List ℕ) → Row m ds → Codeword m (word ds)
+codeword m ds (a, h, inl e) = (a, h, inl (ap word e))
+codeword m ds (a, h, inr e) = (a, h, inr (ap word e))
 
-    abbrev Doubled : List ℕ → Type 0
-    Doubled ds = (w ≡ word (ds ++ ds)) ⊎ (w ≡ word (ds ++ map reversed ds))
+its_row : (m w : ℕ) → Codeword m w → (ds : List ℕ) × Row m ds × (w ≡ word ds)
+its_row m w (a, h, inl e) = (row m a, (a, h, inl refl), e)
+its_row m w (a, h, inr e) = (map reversed (row m a), (a, h, inr refl), e)
 
-    split : (ds : List ℕ) → AllByRecursion Digit ds → length ds ≡ h → Doubled ds → Split ds
-    split ds d e (inl i) =
-        let l = ap (λ (v : ℕ). v % 2 ^ h) i ∙ low_part h ds ds d e in
-        (l, inl (ap (λ (v : ℕ). v / 2 ^ h) i ∙ high_part h ds ds d e ∙ sym l))
-    split ds d e (inr i) =
-        let l = ap (λ (v : ℕ). v % 2 ^ h) i ∙ low_part h ds (map reversed ds) d e in
-        (l, inr (ap (λ (v : ℕ). v / 2 ^ h) i ∙ high_part h ds (map reversed ds) d e ∙ reversed_word ds h d e ∙ ap (λ (v : ℕ). 2 ^ h - 1 - v) (sym l)))
+doubled : (m : ℕ) (ds : List ℕ) → Row m ds → Row (suc m) (ds ++ ds)
+doubled m ds (a, h, inl e) = (a, omega (arith, double m), inl (rw e (sym (row_low m a h))))
+doubled m ds (a, h, inr e) = (a, omega (arith, double m), inr (rw (e, row_low m a h) (sym (map-append reversed (row m a) (row m a)))))
 
-    unsplit : (ds : List ℕ) → AllByRecursion Digit ds → length ds ≡ h → Split ds → Doubled ds
-    unsplit ds d e (l, inl i) = inl (from_parts h ds ds d e w l (i ∙ l))
-    unsplit ds d e (l, inr i) = inr (from_parts h ds (map reversed ds) d e w l (i ∙ ap (λ (v : ℕ). 2 ^ h - 1 - v) l ∙ sym (reversed_word ds h d e)))
+crossed : (m : ℕ) (ds : List ℕ) → Row m ds → Row (suc m) (ds ++ map reversed ds)
+crossed m ds (a, h, inl e) = (2 ^ m + a, omega (arith, double m), inl (rw e (sym (row_high m a h))))
+crossed m ds (a, h, inr e) = (2 ^ m + a, omega (arith, double m), inr (rw (e, row_high m a h) (sym (map-append reversed (row m a) (map reversed (row m a))))))
 
-    module _ (b : ℕ) where
-      split_row : Doubled (half_row b) → Split (half_row b)
-      split_row = split (half_row b) (row_digits (m - 1) b) (row_wide b)
+split : (m : ℕ) (es : List ℕ) → Row (suc m) es → (ds : List ℕ) × Row m ds × ((es ≡ ds ++ ds) ⊎ (es ≡ ds ++ map reversed ds))
+split m es (a, h, i) = go (cases_lt a (2 ^ m)) i
+  where
+    b : ℕ
+    b = a % 2 ^ m
 
-      split_reversed : Doubled (reversed_row b) → Split (reversed_row b)
-      split_reversed = split (reversed_row b) (reversed_digits (half_row b)) (reversed_wide (half_row b) (row_wide b))
+    ds : List ℕ
+    ds = row m b
 
-      unsplit_row : Split (half_row b) → Doubled (half_row b)
-      unsplit_row = unsplit (half_row b) (row_digits (m - 1) b) (row_wide b)
+    stands : b < 2 ^ m
+    stands = mod-lt a (pow_pos m)
 
-      unsplit_reversed : Split (reversed_row b) → Doubled (reversed_row b)
-      unsplit_reversed = unsplit (reversed_row b) (reversed_digits (half_row b)) (reversed_wide (half_row b) (row_wide b))
+    Parts : Type 0
+    Parts = (ds : List ℕ) × Row m ds × ((es ≡ ds ++ ds) ⊎ (es ≡ ds ++ map reversed ds))
 
-    -- a row of all the cells, reversed, by its halves
-    reversed_parts : (a : ℕ) (ds es : List ℕ) → row (suc (m - 1)) a ≡ ds ++ es → complement m a ≡ word (map reversed ds ++ map reversed es)
-    reversed_parts a ds es r = ap (λ (j : ℕ). complement j a) (sym m_below) ∙ ap (λ (v : List ℕ). word (map reversed v)) r ∙ ap word (map-append reversed ds es)
+    go : (a < 2 ^ m) ⊎ (2 ^ m ≤ a) → (es ≡ row (suc m) a) ⊎ (es ≡ map reversed (row (suc m) a)) → Parts
+    go (inl k) (inl e) = (ds, (b, stands, inl refl), inl (e ∙ row_doubled m a k))
+    go (inl k) (inr e) = (map reversed ds, (b, stands, inr refl), inl (e ∙ ap (map reversed) (row_doubled m a k) ∙ map-append reversed ds ds))
+    go (inr k) (inl e) = (ds, (b, stands, inl refl), inr (e ∙ row_crossed m a k h))
+    go (inr k) (inr e) = (map reversed ds, (b, stands, inr refl), inr (e ∙ ap (map reversed) (row_crossed m a k h) ∙ map-append reversed ds (map reversed ds)))
 
-    row_parts : (a : ℕ) (ds es : List ℕ) → row (suc (m - 1)) a ≡ ds ++ es → row_word m a ≡ word (ds ++ es)
-    row_parts a ds es r = ap (λ (j : ℕ). row_word j a) (sym m_below) ∙ ap word r
+-- ---- a member by its halves, as the machine tests it
 
-    -- a member is split at a row of half the cells, or at such a row reversed
-    pub member_splits : Codeword m w → (b : ℕ) × (b < 2 ^ (m - 1)) × (Split (half_row b) ⊎ Split (reversed_row b))
-    member_splits (a, k, i) = go (row_halves (m - 1) a (rw m_below k)) i
-      where
-        go : (p : Halves (m - 1) a) → (w ≡ row_word m a) ⊎ (w ≡ complement m a) → (b : ℕ) × (b < 2 ^ (m - 1)) × (Split (half_row b) ⊎ Split (reversed_row b))
-        go p (inl i) = (
-          p.b,
-          p.stands,
-          inl (split_row p.b (elim p.halves [
-            | inl q ↦ inl (i ∙ row_parts a (half_row p.b) (half_row p.b) q.1)
-            | inr q ↦ inr (i ∙ row_parts a (half_row p.b) (reversed_row p.b) q.1)
-          ])),
-        )
-        go p (inr i) = (
-          p.b,
-          p.stands,
-          inr (split_reversed p.b (elim p.halves [
-            | inl q ↦ inl (i ∙ reversed_parts a (half_row p.b) (half_row p.b) q.1)
-            | inr q ↦ inr (i ∙ reversed_parts a (half_row p.b) (reversed_row p.b) q.1)
-          ])),
-        )
+module _ (m w : ℕ) where
+  abbrev low : ℕ
+  low = w % 2 ^ (2 ^ m)
 
-    low_row : (b : ℕ) → b < 2 ^ (m - 1) → b < 2 ^ m
-    low_row b k = omega (arith, double (m - 1), ap (λ (j : ℕ). 2 ^ j) m_below)
+  abbrev high : ℕ
+  high = w / 2 ^ (2 ^ m)
 
-    high_row : (b : ℕ) → b < 2 ^ (m - 1) → 2 ^ (m - 1) + b < 2 ^ m
-    high_row b k = omega (arith, double (m - 1), ap (λ (j : ℕ). 2 ^ j) m_below)
+  abbrev Alike : Type 0
+  Alike = (high ≡ low) ⊎ (high ≡ 2 ^ (2 ^ m) - 1 - low)
 
-    pub splits_member : (b : ℕ) → b < 2 ^ (m - 1) → Split (half_row b) ⊎ Split (reversed_row b) → Codeword m w
-    splits_member b k (inl s) = elim (unsplit_row b s) [
-      | inl i ↦ (b, low_row b k, inl (i ∙ sym (row_parts b (half_row b) (half_row b) (row_low (m - 1) b k))))
-      | inr i ↦ (2 ^ (m - 1) + b, high_row b k, inl (i ∙ sym (row_parts (2 ^ (m - 1) + b) (half_row b) (reversed_row b) (row_high (m - 1) b k))))
-    ]
-    splits_member b k (inr s) = elim (unsplit_reversed b s) [
-      | inl i ↦ (b, low_row b k, inr (i ∙ sym (reversed_parts b (half_row b) (half_row b) (row_low (m - 1) b k))))
-      | inr i ↦ (2 ^ (m - 1) + b, high_row b k, inr (i ∙ sym (reversed_parts (2 ^ (m - 1) + b) (half_row b) (reversed_row b) (row_high (m - 1) b k))))
-    ]
+  module _ (ds : List ℕ) (r : Row m ds) where
+    d : AllByRecursion Digit ds
+    d = row_is_digits m ds r
 
-    -- ---- what the test answers
+    e : length ds ≡ 2 ^ m
+    e = row_is_wide m ds r
 
-    no_member : (w / 2 ^ h ≡ w % 2 ^ h → ⊥) → (w / 2 ^ h ≡ 2 ^ h - 1 - w % 2 ^ h → ⊥) → Codeword m w → ⊥
-    no_member x y c = go (member_splits c).0 (member_splits c).2
-      where
-        neither : (ds : List ℕ) → Split ds → ⊥
-        neither ds (l, inl i) = x i
-        neither ds (l, inr i) = y i
+    reversed_low : low ≡ word ds → 2 ^ (2 ^ m) - 1 - low ≡ word (map reversed ds)
+    reversed_low l = ap (λ (v : ℕ). 2 ^ (2 ^ m) - 1 - v) l ∙ sym (reversed_word ds (2 ^ m) d e)
 
-        go : (b : ℕ) → Split (half_row b) ⊎ Split (reversed_row b) → ⊥
-        go b (inl s) = neither (half_row b) s
-        go b (inr s) = neither (reversed_row b) s
+    parts : (w ≡ word (ds ++ ds)) ⊎ (w ≡ word (ds ++ map reversed ds)) → Alike × (low ≡ word ds)
+    parts (inl i) =
+        let l : low ≡ word ds = rw i (low_part (2 ^ m) ds ds d e) in
+        (inl (rw i (high_part (2 ^ m) ds ds d e) ∙ sym l), l)
+    parts (inr i) =
+        let l : low ≡ word ds = rw i (low_part (2 ^ m) ds (map reversed ds) d e) in
+        (inr (rw i (high_part (2 ^ m) ds (map reversed ds) d e) ∙ sym (reversed_low l)), l)
 
-    as_lower : (w / 2 ^ h ≡ w % 2 ^ h) ⊎ (w / 2 ^ h ≡ 2 ^ h - 1 - w % 2 ^ h) → (r : Bool) → Decides r (Codeword (m - 1) (w % 2 ^ h)) → Decides r (Codeword m w)
-    as_lower i r d = (λ t. up (d.0 t), λ c. d.1 (down (member_splits c)))
-      where
-        up : Codeword (m - 1) (w % 2 ^ h) → Codeword m w
-        up (b, k, inl l) = splits_member b k (inl (l, i))
-        up (b, k, inr l) = splits_member b k (inr (l, i))
+    whole : Alike → low ≡ word ds → Codeword (suc m) w
+    whole (inl i) l = rw (from_parts (2 ^ m) ds ds d e w l (i ∙ l)) (codeword (suc m) (ds ++ ds) (doubled m ds r))
+    whole (inr i) l = rw (from_parts (2 ^ m) ds (map reversed ds) d e w l (i ∙ reversed_low l)) (codeword (suc m) (ds ++ map reversed ds) (crossed m ds r))
 
-        down : ((b : ℕ) × (b < 2 ^ (m - 1)) × (Split (half_row b) ⊎ Split (reversed_row b))) → Codeword (m - 1) (w % 2 ^ h)
-        down (b, k, inl s) = (b, k, inl s.0)
-        down (b, k, inr s) = (b, k, inr s.0)
+  halves_of : Codeword (suc m) w → Alike × Codeword m low
+  halves_of c =
+      let p = its_row (suc m) w c in
+      let q = split m p.0 p.1 in
+      let s = parts q.0 q.1 (elim q.2 [ inl e ↦ inl (p.2 ∙ ap word e) | inr e ↦ inr (p.2 ∙ ap word e) ]) in
+      (s.0, rw s.1 (codeword m q.0 q.1))
 
-    -- low and high are the halves, and r the lower one reversed
-    module _ (low r : ℕ) (is_low : low ≡ w % ((1 * 2 ^ h) % 2 ^ 32)) (is_reversed : r ≡ 2 ^ h - 1 - low) where
-      low_half : low ≡ w % 2 ^ h
-      low_half = is_low ∙ ap (λ (n : ℕ). w % n) half_power
+  of_halves : Alike → Codeword m low → Codeword (suc m) w
+  of_halves i c = let p = its_row m low c in whole p.0 p.1 i p.2
 
-      pub test_fails : (w / 2 ^ h ≡ low → ⊥) → (w / 2 ^ h ≡ r → ⊥) → Decides false (Codeword m w)
-      test_fails x y = (λ t. absurd (both_ways false refl t), λ c. absurd (no_member (λ e. x (e ∙ sym low_half)) (λ e. y (e ∙ ap (λ (v : ℕ). 2 ^ h - 1 - v) (sym low_half) ∙ sym is_reversed)) c))
+-- n is half of the cells, and p is 2^n as the machine has it
+module _ (M m n p w : ℕ) (whole : M ≡ m + 1) (half : n ≡ 2 ^ m) (power : p ≡ 2 ^ (2 ^ m)) where
+  up : M ≡ suc m
+  up = omega arith
 
-    pub test_goes_on : (low : ℕ) → low ≡ w % ((1 * 2 ^ h) % 2 ^ 32) → (w / 2 ^ h ≡ low) ⊎ (w / 2 ^ h ≡ 2 ^ h - 1 - low) → (b : Bool) → Decides b (Codeword (m - 1) low) → Decides b (Codeword m w)
-    test_goes_on low i e b d =
-        let l = low_half low (2 ^ h - 1 - low) i refl in
-        as_lower (rw l at e) b (rw l at d)
+  abbrev Test : Type 0
+  Test = (w / 2 ^ n ≡ w % p) ⊎ (w / 2 ^ n ≡ 2 ^ (2 ^ m) - 1 - w % p)
+
+  tested : Codeword M w → Test × Codeword m (w % p)
+  tested = rw (up, half, power) (halves_of m w)
+
+  pub test_passes : (b : Bool) → Test → Decides b (Codeword m (w % p)) → Decides b (Codeword M w)
+  test_passes b a d = (λ t. rw up (of_halves m w (rw (half, power) at a) (rw power at (d.0 t))), λ k. d.1 (tested k).1)
+
+  pub test_fails : (b : Bool) → b ≡ false → Decides b Test → Decides b (Codeword M w)
+  test_fails b e d = (λ t. absurd (both_ways b e t), λ k. d.1 (tested k).0)

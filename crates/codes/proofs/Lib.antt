@@ -1,5 +1,3 @@
 pub mod ButterflyLaws
-pub mod ListedSteps
-pub mod TransformLaws
 pub mod HalvesLaws
-pub mod TableLaws
+pub mod TransformLaws

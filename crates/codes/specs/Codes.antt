@@ -15,5 +15,9 @@ abbrev pub code : Bool → ℕ → (ℕ → Type 0) → (List ℤ → ℕ) → M
 code sized n member pick = unfit_unless sized Width (fit (code_fit n member pick))
 
 -- the shape of a code of n cells
+abbrev pub shape : ℕ → WordShape
+shape n = record { width = n; gain_limit = 2 ^ 30 }
+
+-- that shape, or the refusal of so many cells
 abbrev pub code_shape : ℕ → Result WordShape Refusal
-code_shape n = cond (in_range n) (Ok (record { width = n; gain_limit = 2 ^ 30 })) (Err Width)
+code_shape n = cond (in_range n) (Ok (shape n)) (Err Width)

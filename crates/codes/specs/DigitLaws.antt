@@ -1,12 +1,9 @@
 -- Words by their digits.
-use Rattle.std.specs.Prelude.{◌≡◌, ℕ, zero, suc, ◌+◌, ◌*◌, ◌/◌, ◌%◌, ◌^◌, ◌<◌, ◌≤◌, List, [], ◌∷◌, ◌++◌, map, length, take, ℤ, ◌+ℤ◌, bit_or, count_ones, slice_index}
+use Rattle.std.specs.Prelude.{◌≡◌, ℕ, zero, suc, ◌+◌, ◌*◌, ◌/◌, ◌%◌, ◌^◌, ◌<◌, List, [], ◌∷◌, ◌++◌, map, length, ℤ, ◌+ℤ◌, count_ones, slice_index}
 use Rattle.std.proofs.Common.{sym, mul_left_comm, arith}
 use Rattle.std.proofs.Math.Nat.{pow-succ'}
 use Rattle.std.specs.Int.Count.{ones_step}
 use Rattle.std.specs.List.{AllByRecursion}
-use Rattle.std.proofs.lemmas.Nat.{shl_whole, or_comm, or_shifted}
-use Rattle.std.proofs.lemmas.List.{take_more, length-take-le}
-use Rattle.std.proofs.ByRecursion.{All-take, All-get_or}
 use Rattle.finders.specs.Words.{digit, signed, correlation}
 use Rattle.finders.proofs.Correlation.{half_above}
 use Rattle.codes.specs.Digits.{word, reversed}
@@ -48,12 +45,3 @@ pub word_digit : (ds : List ℕ) (i : ℕ) → AllByRecursion Digit ds → i < l
 word_digit [] i h k = absurd (omega arith)
 word_digit (d ∷ ds) zero h k = let a = h.0 in omega arith
 word_digit (d ∷ ds) (suc i) h k = rw (sym (half_above (d + 2 * word ds) i), other_digits d (word ds) h.0) (word_digit ds i h.1 (omega arith))
-
--- one digit more, in a loop over the digits
-pub word_more : (ds : List ℕ) (i d : ℕ) → i < length ds → i < 32 → AllByRecursion Digit ds → d ≡ slice_index ds i → bit_or (word (take i ds)) ((d * 2 ^ i) % 2 ^ 32) ≡ word (take (i + 1) ds)
-word_more ds i d here few h e =
-    let k : i ≤ length ds = omega arith in
-    let n = length-take-le i ds k in
-    let b : word (take i ds) < 2 ^ i = rw n at (word_below (take i ds) (All-take Digit i ds h)) in
-    let s : d < 2 ^ 1 = rw e (All-get_or Digit ds i 0 here h) in
-    rw (shl_whole d 1 i 32 s (omega arith), or_comm, or_shifted d i (word (take i ds)) b, take_more ds i 0 here, sym e, word_append (take i ds) (d ∷ []), n) (omega arith)

@@ -1,6 +1,6 @@
 -- The laws of the even-weight code: no word of even weight has a greater correlation than the word of signs, or than the
 -- repaired one where the signs have an odd number of ones.
-use Rattle.std.specs.Prelude.{◌≡◌, ℕ, zero, suc, ◌+◌, ◌*◌, ◌/◌, ◌%◌, ◌^◌, ◌<◌, ◌≤◌, true, ◌⊎◌, List, [], ◌∷◌, map, length, ℤ, pos, negsuc, ◌+ℤ◌, neg_ℤ, ◌≤ℤ◌, Some, None, Option, MatchOption, ◌≢◌, bit_xor, count_ones, slice_index, slice_index_or, unsigned_abs, refl}
+use Rattle.std.specs.Prelude.{◌≡◌, ℕ, zero, suc, ◌+◌, ◌*◌, ◌/◌, ◌%◌, ◌^◌, ◌<◌, ◌≤◌, true, false, ◌⊎◌, List, [], ◌∷◌, map, length, ℤ, pos, negsuc, ◌+ℤ◌, neg_ℤ, ◌≤ℤ◌, ◌≢◌, bit_xor, count_ones, slice_index, slice_index_or, unsigned_abs, refl}
 use Rattle.std.proofs.Common.{sym, ap, ap₂, ◌∙◌, inl, inr, arith, length-set}
 use Rattle.std.proofs.Math.Nat.{pow-succ'}
 use Rattle.std.specs.Int.Bits.{differ, xor_step, xor_zero_r}
@@ -11,13 +11,12 @@ use Rattle.std.proofs.ByRecursion.{All-weaker}
 use Rattle.std.proofs.lemmas.List.{length-map, get_or-map}
 use Rattle.std.proofs.lemmas.Int.{ints}
 use Rattle.std.proofs.lemmas.Bool.{leb-true, eqb-true, eqb-false, cond_both, cases_eq}
-use Rattle.finders.specs.declared.choice.Least.{Least}
-use Rattle.finders.specs.Choice.{IsFirst, Chosen, numbered, no_larger}
+use Rattle.finders.specs.Choice.{IsFirst, no_larger}
 use Rattle.finders.specs.Sizes.{in_range}
 use Rattle.finders.specs.Words.{correlation, signed}
 use Rattle.finders.specs.WordFinders.{Lawful}
-use Rattle.finders.proofs.Firsts.{first_best_is, chosen_is_first, map_none, all_mapped}
-use Rattle.finders.proofs.Scores.{Little, small, small_decides, no_larger_total, no_larger_chain}
+use Rattle.finders.proofs.Firsts.{first_best_is, all_mapped}
+use Rattle.finders.proofs.Scores.{no_larger_total, no_larger_chain}
 use Rattle.codes.specs.Digits.{word, reversed, reversed_at}
 use Rattle.codes.specs.Universe.{sign, signs}
 use Rattle.codes.specs.EvenWeight.{even, weakest, repaired, even_pick, even_weight}
@@ -133,16 +132,18 @@ even_weight_lawful n = code_lawful n (λ w. (w < 2 ^ n) × (count_ones w % 2 ≡
     (λ gs some e w h. none_is_better gs some w (rw e h.0) h.1)
     (in_range n) (range n)
 
--- ---- the repair as the machine works it out: i is the weakest cell, and n its gain's size
+-- ---- the repair as the machine works it out: i is the weakest cell, n its gain's size, and w the word of signs, whose correlation is c
+
+abbrev pair : ℕ → ℤ → ℕ × ℤ
+pair w c = (w, c)
 
 module _ (gs : List ℤ) (i n : ℕ) (few : length gs ≤ 32) (here : i < length gs) (is_weakest : i ≡ weakest gs) where
-  pub repaired_word : (w : ℕ) → w ≡ word (signs gs) → bit_xor w ((1 * 2 ^ i) % 2 ^ 32) ≡ word (repaired gs)
-  repaired_word w e =
-      let few_i : i < 32 = omega arith in
+  pub repaired_pick : (w : ℕ) (c x : ℤ) → w ≡ word (signs gs) → c ≡ correlation (word (signs gs)) gs → false ≡ even w → n ≡ unsigned_abs (slice_index_or gs i (pos 0)) → c ≡ (x +ℤ pos (2 * n)) → ◌≡◌ {A = ℕ × ℤ} (bit_xor w ((1 * 2 ^ i) % 2 ^ 32), x) (even_pick gs, correlation (even_pick gs) gs)
+  repaired_pick w c x signs_are is odd size left =
       let k : i < length (signs gs) = rw (length-map gs sign) here in
-      rw (one_shl i 32 few_i, e) (reversed_at_xor (signs gs) i (signs_digits gs) k ∙ ap (λ (j : ℕ). word (reversed_at (signs gs) j)) is_weakest)
-
-  pub repaired_correlation : (c : ℤ) → n ≡ unsigned_abs (slice_index_or gs i (pos 0)) → c ≡ correlation (word (signs gs)) gs → c ≡ (correlation (word (repaired gs)) gs +ℤ pos (2 * n))
-  repaired_correlation c e f =
-      f ∙ correlation_signs gs ∙ sym (reversed_at_correlation gs i here)
-      ∙ ap₂ (λ (j k : ℕ). correlation (word (reversed_at (signs gs) j)) gs +ℤ pos (2 * k)) is_weakest (sym e)
+      let turned : bit_xor w ((1 * 2 ^ i) % 2 ^ 32) ≡ word (repaired gs) = rw (one_shl i 32 (omega arith), signs_are) (reversed_at_xor (signs gs) i (signs_digits gs) k ∙ ap (λ (j : ℕ). word (reversed_at (signs gs) j)) is_weakest) in
+      let sum : c ≡ (correlation (word (repaired gs)) gs +ℤ pos (2 * n)) =
+      is ∙ correlation_signs gs ∙ sym (reversed_at_correlation gs i here)
+      ∙ ap₂ (λ (j m : ℕ). correlation (word (reversed_at (signs gs) j)) gs +ℤ pos (2 * m)) is_weakest (sym size) in
+      let no : even (word (signs gs)) ≡ false = rw signs_are at (sym odd) in
+      rw no (ap₂ pair turned (omega (arith, ints, sum, left)))

@@ -1,6 +1,6 @@
 -- Listed words.
-use Rattle.std.specs.Prelude.{ℕ, Bool, true, ◌&&◌, List, [], ◌∷◌, map, length, ℤ, nat_le, slice_index}
-use Rattle.std.specs.List.{ContainsAt as Has}
+use Rattle.std.specs.Prelude.{ℕ, Bool, ◌&&◌, List, map, length, ℤ, nat_le, slice_index}
+use Rattle.std.specs.List.{ContainsAt as Has, list_all}
 use Rattle.finders.specs.declared.refusals.Refusal.TheVariants.{Width, WordCount, Entry}
 use Rattle.finders.specs.Choice.{first_best, no_less}
 use Rattle.finders.specs.Meanings.{Meaning, fit, unfit_unless}
@@ -15,8 +15,7 @@ few k = nat_le 1 k && nat_le k 64
 
 -- no word has a digit beyond the width
 abbrev pub as_wide : ℕ → List ℕ → Bool
-as_wide n [] = true
-as_wide n (w ∷ ws) = fits n w && as_wide n ws
+as_wide n ws = list_all (fits n) ws
 
 -- the first word with the greatest correlation
 abbrev pub first_listed : List ℕ → List ℤ → ℕ

@@ -1,25 +1,21 @@
 -- The laws of listed words.
-use Rattle.std.specs.Prelude.{◌≡◌, ℕ, ◌-◌, ◌^◌, ◌<◌, ◌≤◌, Bool, true, List, [], ◌∷◌, map, length, take, ℤ, pos, ◌≤ℤ◌, Ok, Err, Result, nat_eq, nat_le, nat_lt, slice_index_or}
-use Rattle.std.proofs.Common.{sym, ap, arith}
-use Rattle.std.specs.List.{IsAnyAnswer, ContainsAt as Has, AllByRecursion}
-use Rattle.std.proofs.lemmas.List.Elements.{contains_decides}
+use Rattle.std.specs.Prelude.{◌≡◌, ℕ, ◌^◌, ◌<◌, ◌≤◌, true, List, [], ◌∷◌, map, length, take, ℤ, pos, ◌≤ℤ◌, Ok, Err, Result, nat_le, nat_lt, slice_index_or}
+use Rattle.std.specs.List.{ContainsAt as Has, AllByRecursion}
 use Rattle.std.proofs.ByRecursion.{all-has, has_get_or}
 use Rattle.std.proofs.lemmas.List.{length-map, length-take-le, get_or-map}
 use Rattle.std.proofs.lemmas.Bool.{and_parts, leb-true, ltb-true}
 use Rattle.finders.specs.declared.refusals.Refusal.{Refusal}
-use Rattle.finders.specs.declared.words.WordShape.{WordShape}
 use Rattle.finders.specs.Choice.{IsFirst, first_best, no_less}
 use Rattle.finders.specs.Sizes.{in_range}
-use Rattle.finders.specs.WordFinders.{WordLaws, Lawful, Contains, shape_of, test_checked}
+use Rattle.finders.specs.WordFinders.{WordLaws, Lawful}
 use Rattle.finders.specs.Words.{correlation}
 use Rattle.finders.proofs.Firsts.{first_best_is, all_mapped}
 use Rattle.finders.proofs.Scores.{no_less_total, no_less_chain, great_decides}
-use Rattle.codes.specs.declared.table.Table.{Table}
+use Rattle.codes.specs.declared.listed.table.Table.{Table}
 use Rattle.codes.specs.Listed.{as_wide, first_listed, listed_fit}
 use Rattle.codes.specs.Tables.{listed_in}
 use Rattle.finders.proofs.Within.{range}
 use Rattle.codes.specs.CodeLaws.{code_laws}
-use Rattle.std.proofs.lemmas.Bool.Decides.{Decides-eqb}
 
 all_below : (n : ℕ) (ws : List ℕ) → as_wide n ws ≡ true → AllByRecursion (λ w. w < 2 ^ n) ws
 all_below n [] h = tt
@@ -59,12 +55,3 @@ listed_lawful (Ok t) =
     let some = leb-true 1 t.count (and_parts (nat_le 1 t.count) (nat_le t.count 64) t.counted).0 in
     listed_laws t.width (take t.count t.words) t.sized (rw (length-take-le t.count t.words t.held) some) t.fitting
 listed_lawful (Err e) = tt
-
--- a word is tested: it has passed the check, and b tells whether the list has it
-pub tells_listed : (r : Result Table Refusal) (t : Table) (s : WordShape) (w : ℕ) (b : Bool) → r ≡ Ok t → Ok s ≡ shape_of (listed_in r) → Ok tt ≡ test_checked s.width w → IsAnyAnswer (λ y x. nat_eq y w ≡ x) (take (t.count - 0) t.words) b → Contains (listed_in r) w (Ok b)
-tells_listed r t s w b e shape passed found =
-    let z : t.count - 0 ≡ t.count = omega arith in
-    let at_t : Ok s ≡ shape_of (listed_in (Ok t)) = rw e at shape in
-    let same : s ≡ record { width = t.width; gain_limit = 2 ^ 30 } = cc in
-    let wide : s.width ≡ t.width = ap (λ (v : WordShape). v.width) same in
-    rw (e, sym (rw wide at passed)) (contains_decides nat_eq Decides-eqb (take t.count t.words) w b (rw z at found))

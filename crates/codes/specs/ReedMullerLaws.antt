@@ -1,5 +1,5 @@
 -- The laws of the Reed-Muller code.
-use Rattle.std.specs.Prelude.{◌≡◌, ℕ, ◌-◌, ◌^◌, ◌<◌, ◌≤◌, true, List, map, length, get_or, ℤ, pos, ◌-ℤ◌, neg_ℤ, ◌≤ℤ◌, Ok, int_lt, nat_le, slice_index, slice_index_or, unsigned_abs, refl}
+use Rattle.std.specs.Prelude.{◌≡◌, ℕ, ◌^◌, ◌<◌, ◌≤◌, true, cond, List, map, length, ℤ, pos, neg_ℤ, ◌≤ℤ◌, Ok, int_lt, nat_le, slice_index, slice_index_or, unsigned_abs, refl}
 use Rattle.std.proofs.Common.{sym, ap, ap₂, ◌∙◌, inl, inr, arith, pow_mono, pow_pos}
 use Rattle.std.proofs.ByRecursion.{All-get_or}
 use Rattle.std.proofs.lemmas.List.{length-map, get_or-map}
@@ -7,18 +7,17 @@ use Rattle.std.proofs.lemmas.Int.{ints}
 use Rattle.std.proofs.lemmas.Bool.{leb-true, and_parts, cond_both}
 use Rattle.finders.specs.declared.words.WordShape.{WordShape}
 use Rattle.finders.specs.Choice.{IsFirst, first_best, no_smaller}
-use Rattle.finders.specs.Points.{within}
 use Rattle.finders.specs.Words.{correlation}
-use Rattle.finders.specs.WordFinders.{Lawful, shape_of, find_checked}
+use Rattle.finders.specs.WordFinders.{Lawful, find_checked, find_answer}
 use Rattle.finders.proofs.Firsts.{first_best_is}
 use Rattle.finders.proofs.Scores.{no_smaller_total, no_smaller_chain}
-use Rattle.finders.proofs.Within.{within_at}
+use Rattle.codes.specs.Codes.{shape}
 use Rattle.codes.specs.Digits.{reversed}
 use Rattle.codes.specs.ReedMuller.{from, row, row_word, complement, spectrum, strongest, signed_pick, rm_pick, picked, rm_sized, Codeword, reed_muller}
-use Rattle.codes.specs.CodeLaws.{code_lawful, code_granted}
+use Rattle.codes.specs.CodeLaws.{code_lawful}
 use Rattle.codes.specs.DigitLaws.{word_below}
-use Rattle.codes.specs.RowLaws.{row_digits, length_row, reversed_digits, reversed_word, length_from, get_or_from}
-use Rattle.codes.specs.SpectrumLaws.{correlation_reversed, length_spectrum, spectrum_small}
+use Rattle.codes.specs.RowLaws.{row_digits, length_row, reversed_digits, length_from, get_or_from}
+use Rattle.codes.specs.SpectrumLaws.{correlation_reversed, length_spectrum}
 
 pub row_below : (m a : ℕ) → row_word m a < 2 ^ (2 ^ m)
 row_below m a = rw (length_row m a) at (word_below (row m a) (row_digits m a))
@@ -80,34 +79,17 @@ reed_muller_lawful m = code_lawful (2 ^ m) (Codeword m) (rm_pick m)
 abbrev pair : ℕ → ℤ → ℕ × ℤ
 pair w c = (w, c)
 
--- ---- as the machine works it out: c is the correlation of row a
+-- ---- as the machine works it out
 
-module _ (m a : ℕ) (gs : List ℤ) (c : ℤ) (wide : length gs ≡ 2 ^ m) (is : c ≡ correlation (row_word m a) gs) where
-  pub with_complement : int_lt c (pos 0) ≡ true → (w : ℕ) (x : ℤ) → w ≡ 2 ^ (2 ^ m) - 1 - row_word m a → x ≡ pos 0 -ℤ c → ◌≡◌ {A = ℕ × ℤ} (w, x) (signed_pick m a gs, correlation (signed_pick m a gs) gs)
-  with_complement n w x e f =
-      let v : w ≡ complement m a = e ∙ sym (reversed_word (row m a) (2 ^ m) (row_digits m a) (length_row m a)) in
-      let t : int_lt (correlation (row_word m a) gs) (pos 0) ≡ true = rw is at n in
-      rw t (ap₂ pair v (omega (arith, ints, correlation_complement m a gs wide)))
+-- in a spectrum t, the entry a is the strongest; w is its word with the sign, and n its size
+pub picked_is : (m a : ℕ) (gs t : List ℤ) (w : ℕ) (n : ℤ) → length gs ≡ 2 ^ m → t ≡ spectrum m gs → a ≡ first_best no_smaller (map unsigned_abs t) → n ≡ pos (unsigned_abs (slice_index_or t a (pos 0))) → w ≡ cond (int_lt (slice_index_or t a (pos 0)) (pos 0)) (complement m a) (row_word m a) → ◌≡◌ {A = ℕ × ℤ} (w, n) (picked m gs)
+picked_is m a gs t w n wide is chosen size signed =
+    let s : a ≡ strongest m gs = chosen ∙ ap (λ (v : List ℤ). first_best no_smaller (map unsigned_abs v)) is in
+    let entry : slice_index_or t a (pos 0) ≡ correlation (row_word m a) gs = rw is (spectrum_at m a gs (rw s (strongest_stands m gs))) in
+    ap₂ pair (rw (sym s) (rw entry at signed)) (rw (sym s) (rw entry at size ∙ sym (signed_pick_size m a gs wide)))
 
--- a spectrum t, where the choice has found a
-pub record Found (m a : ℕ) (gs t : List ℤ) : Type 0 where
-  pub is_strongest : a ≡ strongest m gs
-  pub stands : a < 2 ^ m
-  pub entry : get_or t a (pos 0) ≡ correlation (row_word m a) gs
-  pub small : unsigned_abs (slice_index_or t a (pos 0)) ≤ 2 ^ 35
-
-pub found : (m a : ℕ) (gs t : List ℤ) → m ≤ 5 → length gs ≡ 2 ^ m → within (2 ^ 30) gs ≡ true → t ≡ spectrum m gs → a ≡ first_best no_smaller (map unsigned_abs t) → a < length t → Found m a gs t
-found m a gs t few wide small is chosen here =
-    let s = chosen ∙ ap (λ (v : List ℤ). first_best no_smaller (map unsigned_abs v)) is in
-    let k : a < 2 ^ m = rw s (strongest_stands m gs) in
-    record { is_strongest = s; stands = k; entry = ap (λ (v : List ℤ). get_or v a (pos 0)) is ∙ spectrum_at m a gs k; small = within_at (2 ^ 35) t a (rw is (spectrum_small m gs few wide small)) here }
-
-pub found_pick : (m a : ℕ) (gs : List ℤ) (r : ℕ × ℤ) → a ≡ strongest m gs → r ≡ (signed_pick m a gs, correlation (signed_pick m a gs) gs) → r ≡ picked m gs
-found_pick m a gs r s e = e ∙ ap (λ (b : ℕ). pair (signed_pick m b gs) (correlation (signed_pick m b gs) gs)) s
-
--- what a granted find has
-pub granted : (m : ℕ) (s : WordShape) (gs : List ℤ) (u : Unit {0}) → Ok s ≡ shape_of (reed_muller m) → Ok u ≡ find_checked s.width s.gain_limit gs → (m ≤ 5) × (length gs ≤ 32) × (length gs ≡ 2 ^ m) × (within (2 ^ 30) gs ≡ true)
-granted m s gs u e f =
-    let g = code_granted (rm_sized m) (2 ^ m) (Codeword m) (rm_pick m) s gs u e f in
-    let p = and_parts (nat_le 1 m) (nat_le m 5) g.0 in
-    (leb-true m 5 p.1, omega (arith, g.1.as_wide, (sized m g.0).1), g.1.as_wide, g.1.gains_within)
+-- what a find answers that the shape s of the code of 2^o cells grants
+pub answers_picked : (m o : ℕ) (s : WordShape) (gs hs : List ℤ) (r : ℕ × ℤ) (u : Unit {0}) → o ≡ m → rm_sized m ≡ true → s ≡ shape (2 ^ o) → Ok u ≡ find_checked s.width s.gain_limit gs → hs ≡ gs → r ≡ picked o hs → Ok r ≡ find_answer (reed_muller m) gs
+answers_picked m o s gs hs r u same sized shaped checked all e =
+    let granted : Ok u ≡ find_checked (2 ^ m) (2 ^ 30) gs = rw (shaped, same) at checked in
+    rw (sized, sym granted, e, same, all) refl

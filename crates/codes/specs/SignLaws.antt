@@ -1,15 +1,13 @@
 -- The word of signs: no word has a greater correlation.
-use Rattle.std.specs.Prelude.{◌≡◌, ℕ, ◌+◌, ◌*◌, ◌/◌, ◌%◌, ◌^◌, ◌<◌, true, false, cond, List, [], ◌∷◌, ◌++◌, length, take, ℤ, pos, negsuc, neg_ℤ, ◌≤ℤ◌, ◌==◌, bit_or, int_lt, slice_index_or, unsigned_abs, refl}
-use Rattle.std.proofs.Common.{sym, ap, ◌∙◌, arith}
-use mir.Val.{bool_byte}
+use Rattle.std.specs.Prelude.{◌≡◌, ℕ, ◌+◌, ◌/◌, ◌%◌, ◌^◌, ◌<◌, true, false, cond, List, [], ◌∷◌, length, ℤ, pos, negsuc, neg_ℤ, ◌≤ℤ◌, ◌==◌, unsigned_abs, refl}
+use Rattle.std.proofs.Common.{arith}
 use Rattle.std.specs.List.{AllByRecursion}
-use Rattle.std.proofs.lemmas.List.{take_more, length-map, get_or-map}
+use Rattle.std.proofs.lemmas.List.{length-map}
 use Rattle.std.proofs.lemmas.Int.{ints}
-use Rattle.std.proofs.lemmas.Bool.{le-ltb}
 use Rattle.finders.specs.Words.{correlation, signed}
 use Rattle.codes.specs.Digits.{word}
 use Rattle.codes.specs.Universe.{sign, signs}
-use Rattle.codes.specs.DigitLaws.{Digit, map_digits, word_below, word_more, correlation_cons}
+use Rattle.codes.specs.DigitLaws.{Digit, map_digits, word_below, correlation_cons}
 
 -- the sizes of the gains, added
 abbrev pub total : List ℤ → ℕ
@@ -41,21 +39,3 @@ correlation_most w (g ∷ gs) = let a = signed_most (w % 2) g in let b = correla
 pub correlation_signs : (gs : List ℤ) → correlation (word (signs gs)) gs ≡ pos (total gs)
 correlation_signs [] = refl
 correlation_signs (g ∷ gs) = rw (correlation_cons (sign g) (word (signs gs)) g gs (sign_digit g), signed_own g, correlation_signs gs)
-
--- ---- one turn of the loop, at the gain with index i
-
-total_push : (gs : List ℤ) (g : ℤ) → total (gs ++ g ∷ []) ≡ total gs + unsigned_abs g
-total_push [] g = omega arith
-total_push (x ∷ gs) g = rw (total_push gs g) (omega arith)
-
--- the sign as the machine has it
-pub sign_told : (g : ℤ) → bool_byte (int_lt g (pos 0)) ≡ sign g
-sign_told (pos n) = rw (le-ltb n 0 (omega arith))
-sign_told (negsuc n) = refl
-
-module _ (gs : List ℤ) (i : ℕ) (here : i < length gs) where
-  pub signs_more : (d : ℕ) → i < 32 → d ≡ sign (slice_index_or gs i (pos 0)) → bit_or (word (take i (signs gs))) ((d * 2 ^ i) % 2 ^ 32) ≡ word (take (i + 1) (signs gs))
-  signs_more d few e = word_more (signs gs) i d (rw (length-map gs sign) here) few (signs_digits gs) (e ∙ sym (get_or-map sign gs i (pos 0) 0 here))
-
-  pub total_more : total (take (i + 1) gs) ≡ total (take i gs) + unsigned_abs (slice_index_or gs i (pos 0))
-  total_more = ap total (take_more gs i (pos 0) here) ∙ total_push (take i gs) (slice_index_or gs i (pos 0))

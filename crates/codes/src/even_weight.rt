@@ -1,23 +1,30 @@
-ghost use Rattle.std.specs.Prelude.{◌≡◌, ◌^◌, ◌<◌, ◌≤◌, true, [], length, pos, MatchOption, slice_index_or, unsigned_abs};
-ghost use Rattle.finders.specs.Points.{within};
+ghost use Rattle.std.specs.Prelude.{◌≡◌, ◌<◌, [], length, pos, MatchOption, slice_index_or, unsigned_abs};
 ghost use Rattle.finders.specs.Words.{correlation as correlation_of};
-ghost use Rattle.codes.specs.Digits.{word as word_of};
-ghost use Rattle.codes.specs.Universe.{signs as signs_of};
-ghost use Rattle.codes.specs.EvenWeight.{even_weight, even, weakest, repaired};
+ghost use Rattle.codes.specs.EvenWeight.{even_weight, even, even_pick, weakest};
 ghost use Rattle.codes.specs.EvenWeightLaws.{even_weight_lawful};
 
+use super::gains::Gains;
 use super::shapes::shape_of;
-use super::signs::signs;
 use finders::choice::{Least, first_best};
 use finders::refusals::Refusal;
 use finders::words::{WordFinder, WordShape, WordTester};
-
-mod build;
 
 // The words with an even number of ones.
 #[derive(Clone, Copy)]
 pub struct EvenWeight {
     width: usize,
+}
+
+impl EvenWeight {
+    ghost use Rattle.finders.specs.WordFinders.{Same};
+    ghost use Rattle.codes.specs.contracts.even_weight.EvenWeightWordFinder.TheImpl.{ghosts};
+
+    // The words of even weight of so many cells: fit for 1 to 32 of them.
+    pub fn new(width: usize) -> EvenWeight
+        ensures means_the_code { Same (ghosts.meaning result) (even_weight width) }
+    {
+        EvenWeight { width }
+    }
 }
 
 fn has_even_weight(word: u32) -> bool
@@ -37,17 +44,15 @@ fn weakest(gains: &[i32]) -> Option<(usize, Least)>
     )
 }
 
-// Reverses the weakest cell of the word of signs, and answers the correlation that this leaves.
-fn repair(gains: &[i32], word: u32, correlation: i64) -> (u32, i64)
-    requires few_cells { length gains.now ≤ 32 }
-    requires some_cell { 1 ≤ length gains.now }
-    requires small { within (2 ^ 30) gains.now ≡ true }
-    requires signs { word ≡ word_of (signs_of gains.now) }
-    requires correlation { correlation ≡ correlation_of (word_of (signs_of gains.now)) gains.now }
-    ensures word { result.0 ≡ word_of (repaired gains.now) }
-    ensures correlation { result.1 ≡ correlation_of (word_of (repaired gains.now)) gains.now }
+// The word of signs, where it has an odd number of ones with its weakest cell reversed; and the correlation that this leaves.
+fn even_signs(gains: Gains) -> (u32, i64)
+    ensures { result ≡ (even_pick gains.entry.all.now, correlation_of (even_pick gains.entry.all.now) gains.entry.all.now) }
 {
-    match weakest(gains) {
+    let (word, correlation) = gains.signs();
+    if has_even_weight(word) {
+        return (word, correlation);
+    }
+    match weakest(gains.all) {
         Some((i, Least(size))) => (word ^ (1 << i), correlation - 2 * size as i64),
         None => (word, correlation),
     }
@@ -64,11 +69,7 @@ impl WordFinder for EvenWeight {
 
     fn find(&self, gains: &[i32]) -> Result<(u32, i64), Refusal> {
         self.shape()?.check_find(gains)?;
-        let (word, correlation) = signs(gains);
-        if has_even_weight(word) {
-            return Ok((word, correlation));
-        }
-        Ok(repair(gains, word, correlation))
+        Ok(even_signs(Gains::new(gains)))
     }
 }
 

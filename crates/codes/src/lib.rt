@@ -2,11 +2,9 @@
 #![tactic(auto)]
 
 pub mod even_weight;
+mod gains;
 pub mod laws;
 pub mod listed;
 pub mod reed_muller;
 mod shapes;
-mod signs;
-mod table;
-mod transform;
 pub mod universe;

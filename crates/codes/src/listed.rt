@@ -1,16 +1,16 @@
-ghost use Rattle.std.specs.Prelude.{◌≡◌, ◌^◌, ◌≤◌, true, length};
-ghost use Rattle.finders.specs.Points.{within};
+ghost use Rattle.std.specs.Prelude.{◌≡◌, ◌<◌, [], length, Ok, Err, MatchOption, MatchResult, slice_index};
 ghost use Rattle.finders.specs.Words.{correlation as correlation_of};
 ghost use Rattle.codes.specs.Listed.{first_listed};
 ghost use Rattle.codes.specs.Tables.{listed_in};
 ghost use Rattle.codes.specs.ListedLaws.{listed_lawful};
 
-use super::table::Table;
-use finders::choice::{FirstBest, Greatest};
+use super::gains::Gains;
+use finders::choice::{Greatest, first_best};
 use finders::refusals::Refusal;
-use finders::words::{MOST_GAIN, WordFinder, WordShape, WordTester};
+use finders::words::{WordFinder, WordShape, WordTester};
+use table::Table;
 
-mod build;
+mod table;
 
 // Words that are listed one by one, or the refusal of such a list.
 #[derive(Clone, Copy)]
@@ -18,40 +18,33 @@ pub struct Listed {
     table: Result<Table, Refusal>,
 }
 
-// Gain times sign, added over the cells.
-fn correlation(word: u32, gains: &[i32]) -> i64
-    requires few_cells { length gains.now ≤ 32 }
-    requires small { within (2 ^ 30) gains.now ≡ true }
-    ensures { result ≡ correlation_of word gains.now }
-{
-    let mut sum: i64 = 0;
-    let mut rest = word;
-    for gain in gains {
-        if rest % 2 == 0 {
-            sum += i64::from(*gain);
-        } else {
-            sum -= i64::from(*gain);
+impl Listed {
+    ghost use Rattle.finders.specs.WordFinders.{Same};
+    ghost use Rattle.codes.specs.Listed.{listed};
+    ghost use Rattle.codes.specs.contracts.listed.ListedWordFinder.TheImpl.{ghosts};
+
+    // The code of these words, each of so many cells: fit for 1 to 32 cells and 1 to 64 words.
+    pub fn new(width: usize, words: &[u32]) -> Listed
+        ensures means_the_code { Same (ghosts.meaning result) (listed width words.now) }
+    {
+        Listed {
+            table: Table::new(width, words),
         }
-        rest /= 2;
     }
-    sum
+
+    // The table, or what its list was refused for.
+    fn table(&self) -> Result<&Table, Refusal>
+        ensures { MatchResult result (λ t. self.now.table ≡ Ok t.now) (λ e. self.now.table ≡ Err e) }
+    {
+        self.table.as_ref().map_err(|refusal| *refusal)
+    }
 }
 
-// The first of some words with the greatest correlation, and that correlation.
-fn best_of(words: &[u32], gains: &[i32]) -> (u32, i64)
-    requires some_word { 1 ≤ length words.now }
-    requires few_cells { length gains.now ≤ 32 }
-    requires small { within (2 ^ 30) gains.now ≡ true }
-    ensures { result ≡ (first_listed words.now gains.now, correlation_of (first_listed words.now gains.now) gains.now) }
+// The first of some words with the greatest correlation, by its index, with that correlation; none where there is no word.
+fn best_of(words: &[u32], gains: Gains) -> Option<(usize, Greatest)>
+    ensures { MatchOption result (words.now ≡ []) (λ b. (b.0 < length words.now) × (slice_index words.now b.0 ≡ first_listed words.now gains.entry.all.now) × (b.1.0 ≡ correlation_of (first_listed words.now gains.entry.all.now) gains.entry.all.now)) }
 {
-    let mut best = FirstBest::none();
-    for word in words {
-        best.offer(*word, Greatest(correlation(*word, gains)));
-    }
-    match best.held {
-        Some((word, Greatest(correlation))) => (word, correlation),
-        None => (0, 0),
-    }
+    first_best(words.iter().map(|word| Greatest(gains.correlation(*word))))
 }
 
 impl WordFinder for Listed {
@@ -60,36 +53,22 @@ impl WordFinder for Listed {
     ghost lawful = { λ l. listed_lawful l.table };
 
     fn shape(&self) -> Result<WordShape, Refusal> {
-        match &self.table {
-            Ok(table) => Ok(WordShape {
-                width: table.width,
-                gain_limit: MOST_GAIN,
-            }),
-            Err(refusal) => Err(*refusal),
-        }
+        Ok(self.table()?.shape())
     }
 
     fn find(&self, gains: &[i32]) -> Result<(u32, i64), Refusal> {
-        self.shape()?.check_find(gains)?;
-        match &self.table {
-            Ok(table) => {
-                let count = table.count;
-                Ok(best_of(&table.words[0..count], gains))
-            }
-            Err(refusal) => Err(*refusal),
-        }
+        let table = self.table()?;
+        table.shape().check_find(gains)?;
+        let words = table.words();
+        let (i, Greatest(correlation)) = best_of(words, Gains::new(gains)).unwrap();
+        Ok((words[i], correlation))
     }
 }
 
 impl WordTester for Listed {
     fn contains(&self, word: u32) -> Result<bool, Refusal> {
-        self.shape()?.check_test(word)?;
-        match &self.table {
-            Ok(table) => {
-                let count = table.count;
-                Ok((&table.words[0..count]).contains(&word))
-            }
-            Err(refusal) => Err(*refusal),
-        }
+        let table = self.table()?;
+        table.shape().check_test(word)?;
+        Ok(table.words().contains(&word))
     }
 }

@@ -1,7 +1,7 @@
 ghost use Rattle.std.specs.Prelude.{◌≡◌};
 ghost use Rattle.codes.specs.Codes.{code_shape};
 
-use finders::points::MOST_CELLS;
+use finders::checks::check_width;
 use finders::refusals::Refusal;
 use finders::words::{MOST_GAIN, WordShape};
 
@@ -9,9 +9,7 @@ use finders::words::{MOST_GAIN, WordShape};
 pub(super) fn shape_of(width: usize) -> Result<WordShape, Refusal>
     ensures { result ≡ code_shape width }
 {
-    if width < 1 || width > MOST_CELLS {
-        return Err(Refusal::Width);
-    }
+    check_width(width)?;
     Ok(WordShape {
         width,
         gain_limit: MOST_GAIN,

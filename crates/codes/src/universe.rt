@@ -1,17 +1,27 @@
 ghost use Rattle.codes.specs.Universe.{universe};
 ghost use Rattle.codes.specs.UniverseLaws.{universe_lawful};
 
+use super::gains::Gains;
 use super::shapes::shape_of;
-use super::signs::signs;
 use finders::refusals::Refusal;
 use finders::words::{WordFinder, WordShape, WordTester};
-
-mod build;
 
 // All words of a width.
 #[derive(Clone, Copy)]
 pub struct Universe {
     width: usize,
+}
+
+impl Universe {
+    ghost use Rattle.finders.specs.WordFinders.{Same};
+    ghost use Rattle.codes.specs.contracts.universe.UniverseWordFinder.TheImpl.{ghosts};
+
+    // All words of so many cells: fit for 1 to 32 of them.
+    pub fn new(width: usize) -> Universe
+        ensures means_the_code { Same (ghosts.meaning result) (universe width) }
+    {
+        Universe { width }
+    }
 }
 
 impl WordFinder for Universe {
@@ -25,7 +35,7 @@ impl WordFinder for Universe {
 
     fn find(&self, gains: &[i32]) -> Result<(u32, i64), Refusal> {
         self.shape()?.check_find(gains)?;
-        Ok(signs(gains))
+        Ok(Gains::new(gains).signs())
     }
 }
 

@@ -1,23 +1,15 @@
-use Rattle.std.proofs.Common.{ℕ, List, ap, subst, w64, SFits, rules}
+use Rattle.std.proofs.Common.{ap, ◌∙◌, rules, get_or}
 use Rattle.finders.specs.declared.choice.Greatest.{Greatest}
-use Rattle.finders.specs.Choice.{Chosen}
-use Rattle.finders.proofs.Scores.{Great}
-use Rattle.codes.proofs.ListedSteps.{offers, offers_one_more, first_is_held, one_is_held}
+use Rattle.std.proofs.lemmas.Iterator.{YieldsList-from_slice, YieldsList-from_map}
+use Rattle.finders.specs.Words.{correlation}
+use Rattle.finders.specs.Choice.{no_less}
+use Rattle.finders.proofs.FirstRuns.{found_first}
+use Rattle.finders.proofs.Scores.{Great, great, great_decides}
 use Rattle.codes.proofs.listed.best_of.Goals as goal
 
-pub loop-word-preserved : goal.loop-word-preserved
-loop-word-preserved c =
-    let ws = c.args.words.now in
-    let gs = c.args.gains.now in
-    let i = c.loop-word.word-index in
-    let f : SFits w64 c.correlation.result = search rules in
-    let more = offers_one_more ws gs i c.correlation.result c.loop-word-test.true f c.correlation.ensures in
-    subst (λ (v : List (ℕ × Greatest)). Chosen Great v c.offer.new.self.held) more (c.offer.ensures.holds_the_first_best (offers ws gs i) c.loop-word.invariant)
-
-pub returns-in-Some : goal.returns-in-Some
-returns-in-Some c =
-    let f : SFits w64 c.in-Some.field-0-1.0 = search rules in
-    first_is_held c.args.words.now c.args.gains.now c.loop-word.word-index c.loop-word.best.held c.loop-word-test.false c.loop-word.invariant c.in-Some.word c.in-Some.field-0-1 _ c.in-Some.is (ap (λ (s : Greatest). s.0) c.in-Some.field-0-1-is) f
-
-pub returns-in-None : goal.returns-in-None
-returns-in-None c = absurd (one_is_held c.args.words.now c.args.gains.now c.loop-word.word-index c.loop-word.best.held c.loop-word-test.false c.loop-word.invariant c.requires.some_word c.in-None.is)
+pub returns : goal.returns
+returns c =
+    let gs = c.args.gains.all.now in
+    found_first (λ w. correlation w gs) great no_less Great great_decides 0 c.args.words.now c.first_best.result c.first_best.ensures.is_the_first_best
+    (YieldsList-from_map _ (λ w. great (correlation w gs)) (YieldsList-from_slice c.args.words.now cc) c.map.ensures.closure (λ x r f k. search rules))
+    _ (λ b i here score. (here, ap (λ k. get_or c.args.words.now k 0) i, ap (λ (s : Greatest). s.0) score ∙ ap (λ k. correlation (get_or c.args.words.now k 0) gs) i))

@@ -1,7 +1,7 @@
-use Rattle.codes.specs.ReedMullerLaws.{granted}
+use Rattle.codes.specs.ReedMullerLaws.{answers_picked}
 use Rattle.codes.proofs.reed_muller.ReedMullerWordFinder.find.Goals as goal
 
-pub decode-requires : goal.decode-requires
-decode-requires c =
-    let g = granted c.args.self.now.m c.in_ok-shape.field-0 c.args.gains.now c.in_ok-check_find.field-0 c.in_ok-shape.ensures.tells_the_shape c.in_ok-check_find.ensures.is_the_first_refusal in
-    record { small_m = g.0; few_cells = g.1; as_wide = g.2; small = g.3 }
+pub returns : goal.returns
+returns c = record {
+  answers_the_pick_and_its_correlation = answers_picked c.args.self.now.m c.in_ok-order.order.m c.shape.result c.args.gains.now c.new-2.result.all.now c.decode.result c.in_ok-check_find.field-0 c.in_ok-order.ensures.0 c.in_ok-order.ensures.1 c.shape.ensures.cells c.in_ok-check_find.ensures.is_the_first_refusal c.new-2.ensures c.decode.ensures;
+}
