@@ -35,10 +35,7 @@ impl Answer {
     {
         match self {
             Answer::Word(word, correlation) => word_text(heap, *word, *correlation),
-            Answer::Refused(refusal) => {
-                let number = refusal.number();
-                format!(in heap; "refused {number}")
-            }
+            Answer::Refused(refusal) => format!(in heap; "{refusal}"),
             Answer::Unreadable => String::from_str(heap, "unreadable"),
         }
     }

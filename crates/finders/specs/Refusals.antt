@@ -1,5 +1,5 @@
--- The number of each refusal.
-use Rattle.std.specs.Prelude.{ℕ}
+-- The number of each refusal, and how it is written.
+use Rattle.std.specs.Prelude.{ℕ, List, ◌++◌, codes, decimal}
 use Rattle.finders.specs.declared.refusals.Refusal.{Refusal}
 use Rattle.finders.specs.declared.refusals.Refusal.TheVariants.{Width, Length, Magnitude, Step, GlueCount, Entry, Exhausted, Factor, WordCount, Depth, Full, Empty, Closed, Kind}
 
@@ -18,3 +18,6 @@ number_of Full = 11
 number_of Empty = 12
 number_of Closed = 13
 number_of Kind = 14
+
+abbrev pub refusal_text : Refusal → List ℕ
+refusal_text e = codes "refused " ++ decimal (number_of e)

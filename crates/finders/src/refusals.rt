@@ -1,5 +1,8 @@
-ghost use Rattle.std.specs.Prelude.{◌≡◌};
-ghost use Rattle.finders.specs.Refusals.{number_of};
+ghost use Rattle.std.specs.Prelude.{◌≡◌, Some};
+ghost use Rattle.finders.specs.Refusals.{number_of, refusal_text};
+
+use std::error::Error;
+use std::fmt;
 
 // Why a call is refused.
 #[derive(Clone, Copy, PartialEq, Eq, Debug)]
@@ -34,11 +37,21 @@ pub enum Refusal {
     Kind = 14,
 }
 
-impl Refusal {
-    // The number that stands for this refusal wherever it is written.
-    pub fn number(self) -> u8
-        ensures is_the_stated_number { result ≡ number_of self }
-    {
-        self as u8
+// The number that stands for a refusal wherever it is written.
+impl From<Refusal> for u8 {
+    ghost from_gives = { λ refusal number. number ≡ number_of refusal };
+
+    fn from(refusal: Refusal) -> u8 {
+        refusal as u8
     }
 }
+
+impl fmt::Display for Refusal {
+    ghost output = { λ refusal. Some (refusal_text refusal) };
+
+    fn fmt<W: fmt::Write>(&self, f: &mut fmt::Formatter<W>) -> fmt::Result {
+        write!(f, "refused {}", u8::from(*self))
+    }
+}
+
+impl Error for Refusal {}

@@ -32,10 +32,7 @@ impl Answer {
     {
         match self {
             Answer::Nearest(point, distance) => point_text(heap, point, *distance),
-            Answer::Refused(refusal) => {
-                let number = refusal.number();
-                format!(in heap; "refused {number}")
-            }
+            Answer::Refused(refusal) => format!(in heap; "{refusal}"),
             Answer::Unreadable => String::from_str(heap, "unreadable"),
         }
     }

@@ -15,10 +15,7 @@ fn print_point(rt: &HostRuntime, readings: &[i32; 4]) -> io::Result<()> {
     let mut place = [0; 4];
     match LatticeD::new(4).find(readings, STEP, &mut place) {
         Ok(distance) => println!(rt; "D of {readings:?} is {place:?} at {distance}"),
-        Err(refusal) => {
-            let number = refusal.number();
-            println!(rt; "D of {readings:?} is refused {number}")
-        }
+        Err(refusal) => println!(rt; "D of {readings:?} is {refusal}"),
     }
 }
 
