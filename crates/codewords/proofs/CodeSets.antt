@@ -1,5 +1,5 @@
 -- The codes: they keep their laws, and what is found in them has the greatest correlation.
-use Rattle.std.proofs.Common.{◌≡◌, ℕ, leb, List, length, ℤ, Result, ◌∙◌}
+use Rattle.std.proofs.Common.{◌≡◌, ℕ, leb, List, length, ℤ, Some, None, Option, Result, ◌∙◌, subst}
 use Rattle.std.proofs.lemmas.Bool.{and_parts, leb-true}
 use Rattle.finders.specs.declared.refusals.Refusal.{Refusal}
 use Rattle.finders.specs.declared.refusals.Refusal.TheVariants.{Width, WordCount, Entry}
@@ -16,12 +16,16 @@ use Rattle.codes.specs.ReedMullerLaws.{reed_muller_lawful}
 use Rattle.codes.specs.UniverseLaws.{universe_lawful}
 use Rattle.codewords.specs.declared.words.Code.{Code}
 use Rattle.codewords.specs.declared.words.Code.TheVariants.{Universe, EvenWeight, ReedMuller}
-use Rattle.codewords.specs.Tasks.{m_of, code_meaning}
+use Rattle.codewords.specs.Sets.{m_of, reed_muller_of, code_meaning}
+
+some_reed_muller_lawful : (m : Option ℕ) → Lawful (reed_muller_of m)
+some_reed_muller_lawful (Some m) = reed_muller_lawful m
+some_reed_muller_lawful None = tt
 
 codes_lawful : (k : Code) (n : ℕ) → Lawful (code_meaning k n)
 codes_lawful Universe n = universe_lawful n
 codes_lawful EvenWeight n = even_weight_lawful n
-codes_lawful ReedMuller n = reed_muller_lawful (m_of n)
+codes_lawful ReedMuller n = some_reed_muller_lawful (m_of n)
 
 list_lawful : (n : ℕ) (vs : List ℕ) → Lawful (listed n vs)
 list_lawful n vs =
@@ -39,8 +43,8 @@ pub found_in_code : (k j : Code) (n : ℕ) (M : Meaning WordFit) (gs : List ℤ)
 found_in_code k j n M gs r e s a = rw e (found M (code_meaning j n) gs r (codes_lawful j n) s a)
 
 -- the code k is the Reed-Muller code, and m is that of n cells
-pub found_in_reed_muller : (k : Code) (n m : ℕ) (M : Meaning WordFit) (gs : List ℤ) (r : Result (ℕ × ℤ) Refusal) → k ≡ ReedMuller → m ≡ m_of n → Same M (reed_muller m) → r ≡ find_answer M gs → (r ≡ find_answer (code_meaning k n) gs) × Outcome (code_meaning k n) gs r
-found_in_reed_muller k n m M gs r e o s a = found_in_code k ReedMuller n M gs r e (rw o at s) a
+pub found_in_reed_muller : (k : Code) (n m : ℕ) (M : Meaning WordFit) (gs : List ℤ) (r : Result (ℕ × ℤ) Refusal) → k ≡ ReedMuller → Some m ≡ m_of n → Same M (reed_muller m) → r ≡ find_answer M gs → (r ≡ find_answer (code_meaning k n) gs) × Outcome (code_meaning k n) gs r
+found_in_reed_muller k n m M gs r e o s a = found_in_code k ReedMuller n M gs r e (subst (λ (v : Option ℕ). Same M (reed_muller_of v)) o s) a
 
 pub found_in_list : (n : ℕ) (vs : List ℕ) (M : Meaning WordFit) (gs : List ℤ) (r : Result (ℕ × ℤ) Refusal) → Same M (listed n vs) → r ≡ find_answer M gs → (r ≡ find_answer (listed n vs) gs) × Outcome (listed n vs) gs r
 found_in_list n vs M gs r s a = found M (listed n vs) gs r (list_lawful n vs) s a

@@ -1,5 +1,2 @@
-pub mod Texts
-pub mod Written
-pub mod Slashes
-pub mod Replies
 pub mod CodeSets
+pub mod Slashes

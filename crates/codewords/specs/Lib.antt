@@ -1,5 +1,4 @@
-pub mod Tasks
-pub mod Answers
-pub mod Numbers
+pub mod Sets
+pub mod Found
 pub mod Lines
 pub mod Worked

@@ -1,89 +1,55 @@
--- A line, its words, and what it is answered.
-use Rattle.std.specs.Prelude.{◌≡◌, ℕ, ◌+◌, ◌<◌, List, [], ◌∷◌, ◌++◌, length, take, drop, ℤ, Some, None, codes, Option, ◌≢◌}
-use Rattle.std.specs.Char.{is_whitespace, is_not_whitespace}
-use Rattle.std.specs.Str.{NoCharPasses, EmptyOrStartsWithPassing}
-use Rattle.std.specs.List.{AllByRecursion}
+-- What the words of a line are answered.
+use Rattle.std.specs.Prelude.{◌≡◌, ℕ, ◌+◌, List, [], ◌∷◌, length, take, drop, position, ℤ, Ok, Err, codes, Option, Result, MatchOption}
+use Rattle.std.specs.Str.{bytes_eq as same_text}
+use Rattle.finders.specs.declared.refusals.Refusal.{Refusal}
 use Rattle.finders.specs.declared.refusals.Refusal.TheVariants.{Kind}
 use Rattle.finders.specs.Meanings.{Meaning}
 use Rattle.finders.specs.WordFinders.{WordFit, find_answer as find_word}
 use Rattle.codes.specs.Listed.{listed}
-use Rattle.codewords.specs.declared.answers.Answer.{Answer}
-use Rattle.codewords.specs.declared.answers.Answer.TheVariants.{Refused, Unreadable}
-use Rattle.codewords.specs.declared.tasks.Task.{Task}
-use Rattle.codewords.specs.declared.tasks.Task.TheVariants.{Codewords, Listed}
+use Rattle.tasks.specs.declared.failure.Failure.{Failure}
+use Rattle.tasks.specs.declared.failure.Failure.TheVariants.{Refused, Unreadable}
+use Rattle.tasks.specs.Numbers.{Signeds, Unsigneds, Reads}
+use Rattle.codewords.specs.declared.found.Codeword.{Codeword}
+use Rattle.codewords.specs.declared.names.Task.{Task}
+use Rattle.codewords.specs.declared.names.Task.TheVariants.{Codewords, Listed}
 use Rattle.codewords.specs.declared.words.Code.{Code}
-use Rattle.codewords.specs.Answers.{answer_text, word_answer}
-use Rattle.codewords.specs.Numbers.{Signeds, Unsigneds, Unwritten}
-use Rattle.codewords.specs.Tasks.{named, code_meaning}
-
--- ---- the words of a line
-
--- bs is white space, the word w, and rest, which is empty or begins with white space
-pub record First (bs w rest : List ℕ) : Type 0 where
-  pub gap : List ℕ
-  pub cut : bs ≡ gap ++ (w ++ rest)
-  pub some : 0 < length w
-  pub blank : NoCharPasses is_not_whitespace gap
-  pub solid : NoCharPasses is_whitespace w
-  pub ends : (more : List ℕ) × EmptyOrStartsWithPassing is_whitespace rest more
-
--- ws are the words of bs
-abbrev pub Words : List ℕ → List (List ℕ) → Type 0
-Words bs [] = NoCharPasses is_not_whitespace bs
-Words bs (w ∷ ws) = (rest : List ℕ) × First bs w rest × Words rest ws
-
--- none of the words is a slash
-abbrev pub NoSlash : List (List ℕ) → Type 0
-NoSlash ws = AllByRecursion (λ w. w ≢ codes "/") ws
-
--- the words in front of the first slash, and those behind it
-pub record Cut (ws before after : List (List ℕ)) : Type 0 where
-  pub at_a_slash : ws ≡ before ++ codes "/" ∷ after
-  pub at_the_first : NoSlash before
-
--- the index of the first slash, or none
-abbrev pub FirstSlash : List (List ℕ) → Option ℕ → Type 0
-FirstSlash ws None = NoSlash ws
-FirstSlash ws (Some i) = Cut ws (take i ws) (drop (i + 1) ws)
+use Rattle.codewords.specs.Found.{told}
+use Rattle.codewords.specs.Sets.{named, code_meaning}
 
 -- ---- words of codes
 
 -- the answer to gains, by what `find` answers
-abbrev pub FindsWord : Meaning WordFit → List ℤ → Answer → Type 0
-FindsWord M gs a = a ≡ word_answer (find_word M gs)
+abbrev pub FindsWord : Meaning WordFit → List ℤ → Result Codeword Failure → Type 0
+FindsWord M gs r = r ≡ told (find_word M gs)
 
--- the answer to gains that are written
-pub record CodeAnswer (k : Code) (ws : List (List ℕ)) (a : Answer) : Type 0 where
-  pub no_gains : Unwritten Signeds ws → a ≡ Unreadable
-  pub found : (gs : List ℤ) → Signeds ws gs → FindsWord (code_meaning k (length gs)) gs a
+-- the answer to the gains of a code
+abbrev pub CodeAnswer : Code → List (List ℕ) → Result Codeword Failure → Type 0
+CodeAnswer k ws = Reads Signeds ws (λ gs. FindsWord (code_meaning k (length gs)) gs)
 
--- the answer to a list and gains that are written
-pub record PartsAnswer (list gains : List (List ℕ)) (a : Answer) : Type 0 where
-  pub no_list : Unwritten Unsigneds list → a ≡ Unreadable
-  pub no_gains : Unwritten Signeds gains → a ≡ Unreadable
-  pub found : (vs : List ℕ) (gs : List ℤ) → Unsigneds list vs → Signeds gains gs → FindsWord (listed (length gs) vs) gs a
+-- the answer to a list and gains
+abbrev pub PartsAnswer : List (List ℕ) → List (List ℕ) → Result Codeword Failure → Type 0
+PartsAnswer list gains = Reads Unsigneds list (λ vs. Reads Signeds gains (λ gs. FindsWord (listed (length gs) vs) gs))
+
+-- the index of the first slash
+abbrev pub first_slash : List (List ℕ) → Option ℕ
+first_slash = position (λ w. same_text w (codes "/"))
 
 -- the answer to a list, a slash and gains
-pub record ListedAnswer (ws : List (List ℕ)) (a : Answer) : Type 0 where
-  pub no_slash : NoSlash ws → a ≡ Unreadable
-  pub parted : (before after : List (List ℕ)) → Cut ws before after → PartsAnswer before after a
+abbrev pub ListedAnswer : List (List ℕ) → Result Codeword Failure → Type 0
+ListedAnswer ws r = MatchOption (first_slash ws) (r ≡ Err Unreadable) (λ i. PartsAnswer (take i ws) (drop (i + 1) ws) r)
 
 -- ---- lines
 
 -- the answer to the words behind the name of a task
-abbrev pub TaskAnswer : Task → List (List ℕ) → Answer → Type 0
-TaskAnswer (Codewords k) ws a = CodeAnswer k ws a
-TaskAnswer Listed ws a = ListedAnswer ws a
+abbrev pub TaskAnswer : Task → List (List ℕ) → Result Codeword Failure → Type 0
+TaskAnswer (Codewords k) ws r = CodeAnswer k ws r
+TaskAnswer Listed ws r = ListedAnswer ws r
 
-abbrev pub Told : Option Task → List (List ℕ) → Answer → Type 0
-Told None ws a = a ≡ Refused Kind
-Told (Some t) ws a = TaskAnswer t ws a
+abbrev pub Told : Result Task Refusal → List (List ℕ) → Result Codeword Failure → Type 0
+Told (Ok t) ws r = TaskAnswer t ws r
+Told (Err e) ws r = r ≡ Err (Refused e)
 
 -- the answer to the words of a line
-abbrev pub Answers : List (List ℕ) → Answer → Type 0
-Answers [] a = a ≡ Refused Kind
-Answers (name ∷ ws) a = Told (named name) ws a
-
--- what is printed for a line
-abbrev pub Responds : List ℕ → List ℕ → Type 0
-Responds line text = (ws : List (List ℕ)) × (a : Answer) × Words line ws × Answers ws a × (text ≡ answer_text a)
+abbrev pub Answers : List (List ℕ) → Result Codeword Failure → Type 0
+Answers [] r = r ≡ Err (Refused Kind)
+Answers (name ∷ ws) r = Told (named name) ws r

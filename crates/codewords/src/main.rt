@@ -1,10 +1,9 @@
 // Reads tasks, one a line, and prints the best word of each.
 #![tactic(auto)]
 
-mod answers;
+mod found;
 mod lines;
-mod numbers;
-mod tasks;
+mod names;
 mod words;
 mod worked;
 

@@ -1,7 +1,7 @@
 ghost use Rattle.std.specs.Prelude.{◌≡◌, length};
 ghost use Rattle.finders.specs.WordFinders.{find_answer, Outcome};
 ghost use Rattle.codes.specs.Listed.{listed};
-ghost use Rattle.codewords.specs.Tasks.{m_of, code_meaning};
+ghost use Rattle.codewords.specs.Sets.{m_of, code_meaning};
 
 use codes::even_weight::EvenWeight;
 use codes::listed::Listed;
@@ -18,17 +18,17 @@ pub enum Code {
     ReedMuller,
 }
 
-// The m of the Reed-Muller code of so many cells: 0, which makes it unfit, where there is no such code.
-fn m_of(cells: usize) -> u32
+// The m of the Reed-Muller code of so many cells.
+fn m_of(cells: usize) -> Option<u32>
     ensures { result ≡ m_of cells }
 {
     match cells {
-        2 => 1,
-        4 => 2,
-        8 => 3,
-        16 => 4,
-        32 => 5,
-        _ => 0,
+        2 => Some(1),
+        4 => Some(2),
+        8 => Some(3),
+        16 => Some(4),
+        32 => Some(5),
+        _ => None,
     }
 }
 
@@ -41,7 +41,10 @@ impl Code {
         match self {
             Code::Universe => Universe::new(gains.len()).find(gains),
             Code::EvenWeight => EvenWeight::new(gains.len()).find(gains),
-            Code::ReedMuller => ReedMuller::new(m_of(gains.len())).find(gains),
+            Code::ReedMuller => {
+                let m = m_of(gains.len()).ok_or(Refusal::Width)?;
+                ReedMuller::new(m).find(gains)
+            }
         }
     }
 }

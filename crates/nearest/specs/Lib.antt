@@ -1,3 +1,3 @@
-pub mod Tasks
-pub mod Answers
+pub mod Sets
+pub mod Found
 pub mod Lines

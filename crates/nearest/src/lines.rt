@@ -1,85 +1,45 @@
-ghost use Rattle.std.specs.Prelude.{List, map, length, ℤ, IfOk, Some, string_bytes, MatchOption};
-ghost use Rattle.nearest.specs.Lines.{Words, Readings, Finds, Told, Answers, Responds};
-ghost use Rattle.nearest.specs.Tasks.{meaning_of};
+ghost use Rattle.std.specs.Prelude.{map, length, IfOk, Some, string_bytes};
+ghost use Rattle.tasks.specs.Failures.{UnlessMemory};
+ghost use Rattle.tasks.specs.Lines.{Responds};
+ghost use Rattle.nearest.specs.Found.{nearest_text};
+ghost use Rattle.nearest.specs.Lines.{Finds, Asks, Answers};
+ghost use Rattle.nearest.specs.Sets.{meaning_of};
 
-use super::answers::Answer;
-use super::tasks::Lattice;
+use super::found::Nearest;
+use super::sets::Lattice;
 use finders::refusals::Refusal;
 use std::alloc::{AllocError, Global};
+use tasks::failure::Failure;
+use tasks::numbers::numbers;
 
-// The words of a line.
-fn words<'a>(heap: Global, line: &'a str) -> Result<Vec<&'a str>, AllocError>
-    ensures { IfOk result (λ v. Words line.now (map (λ w. w.now) v.items)) }
-{
-    let mut words = Vec::new(heap);
-    for word in line.split_whitespace() {
-        words.push(word)?;
-    }
-    Ok(words)
-}
-
-// The readings that the words write, or none where a word writes no number that fits.
-fn readings(heap: Global, words: &[&str]) -> Result<Option<Vec<i32>>, AllocError>
-    ensures { IfOk result (λ o. MatchOption o ((zs : List ℤ) → Readings (map (λ w. w.now) words.now) zs → ⊥) (λ v. Readings (map (λ w. w.now) words.now) v.items)) }
-{
-    let mut readings = Vec::new(heap);
-    for word in words {
-        let Ok(reading) = word.parse::<i32>() else {
-            return Ok(None);
-        };
-        readings.push(reading)?;
-    }
-    Ok(Some(readings))
-}
-
-fn nearest(
-    heap: Global,
-    lattice: Lattice,
-    step: u32,
-    readings: &[i32],
-) -> Result<Answer, AllocError>
-    ensures { IfOk result (λ a. Finds (meaning_of lattice (length readings.now)) readings.now step a) }
+fn nearest(heap: Global, lattice: Lattice, step: u32, readings: &[i32]) -> Result<Nearest, Failure>
+    ensures { UnlessMemory result (Finds (meaning_of lattice (length readings.now)) readings.now step) }
 {
     let mut point = vec![in heap; 0i32; readings.len()]?;
-    match lattice.find(readings, step, &mut point) {
-        Ok(distance) => Ok(Answer::Nearest(point, distance)),
-        Err(refusal) => Ok(Answer::Refused(refusal)),
-    }
+    let distance = lattice.find(readings, step, &mut point)?;
+    Ok(Nearest { point, distance })
 }
 
 // What a step and readings are answered.
-fn asked(heap: Global, lattice: Lattice, words: &[&str]) -> Result<Answer, AllocError>
-    ensures { IfOk result (λ a. Told (Some lattice) (map (λ w. w.now) words.now) a) }
+fn asked(heap: Global, lattice: Lattice, words: &[&str]) -> Result<Nearest, Failure>
+    ensures { UnlessMemory result (Asks lattice (map (λ w. w.now) words.now)) }
 {
-    let [step, rest @ ..] = words else {
-        return Ok(Answer::Unreadable);
-    };
-    let Ok(step) = step.parse::<u32>() else {
-        return Ok(Answer::Unreadable);
-    };
-    match readings(heap, rest)? {
-        Some(readings) => nearest(heap, lattice, step, &readings),
-        None => Ok(Answer::Unreadable),
-    }
+    let (step, rest) = words.split_first().ok_or(Failure::Unreadable)?;
+    let step = step.parse::<u32>()?;
+    nearest(heap, lattice, step, &numbers::<i32>(heap, rest)?)
 }
 
 // What the words of a line are answered.
-fn answer(heap: Global, words: &[&str]) -> Result<Answer, AllocError>
-    ensures { IfOk result (λ a. Answers (map (λ w. w.now) words.now) a) }
+fn answer(heap: Global, words: &[&str]) -> Result<Nearest, Failure>
+    ensures { UnlessMemory result (Answers (map (λ w. w.now) words.now)) }
 {
-    let [name, rest @ ..] = words else {
-        return Ok(Answer::Refused(Refusal::Kind));
-    };
-    match Lattice::named(name) {
-        Some(lattice) => asked(heap, lattice, rest),
-        None => Ok(Answer::Refused(Refusal::Kind)),
-    }
+    let (name, rest) = words.split_first().ok_or(Refusal::Kind)?;
+    asked(heap, name.parse()?, rest)
 }
 
 // The line that is printed for a line that was read.
 pub fn respond(heap: Global, line: &str) -> Result<String, AllocError>
-    ensures answers_the_words_of_the_line { IfOk result (λ s. Responds line.now (string_bytes s)) }
+    ensures answers_the_words_of_the_line { IfOk result (λ s. Responds Answers (λ nearest. Some (nearest_text nearest)) line.now (string_bytes s)) }
 {
-    let words = words(heap, line)?;
-    answer(heap, &words)?.text(heap)
+    tasks::lines::respond(heap, line, |words| answer(heap, words))
 }

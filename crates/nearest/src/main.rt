@@ -1,9 +1,9 @@
 // Reads tasks, one a line, and prints the nearest point of each.
 #![tactic(auto)]
 
-mod answers;
+mod found;
 mod lines;
-mod tasks;
+mod sets;
 
 use lines::respond;
 use std::io;

@@ -1,12 +1,27 @@
-use Rattle.std.proofs.Common.{ℕ, List, map, vec_items, sym, subst, Bor}
-use Rattle.std.proofs.lemmas.Option.{MatchOption-at_some}
-use Rattle.codewords.specs.Numbers.{Signeds, Unwritten}
-use Rattle.codewords.proofs.Replies.{word_found}
+use Rattle.std.proofs.Common.{ℕ, List, length, map, ◌∙◌, ap, ℤ, Result, Bor}
+use Rattle.std.proofs.lemmas.Result.{err_from_is_err_and}
+use Rattle.tasks.specs.Numbers.{Reads, Signeds}
+use Rattle.tasks.specs.declared.failure.Failure.{Failure}
+use Rattle.tasks.proofs.Responses.{even_then}
+use Rattle.tasks.proofs.Written.{signed, read_words, not_read}
+use Rattle.codewords.specs.declared.found.Codeword.{Codeword}
+use Rattle.codewords.specs.declared.words.Code.{Code}
+use Rattle.codewords.specs.Found.{told}
+use Rattle.codewords.specs.Lines.{FindsWord}
+use Rattle.codewords.specs.Sets.{code_meaning}
 use Rattle.codewords.proofs.lines.codewords_asked.Goals as goal
 
-pub returns-in-Some : goal.returns-in-Some
-returns-in-Some c =
+abbrev Finds_in : Code → List ℤ → Result Codeword Failure → Type 0
+Finds_in k gs = FindsWord (code_meaning k (length gs)) gs
+
+pub returns-in_err-gains : goal.returns-in_err-gains
+returns-in_err-gains c =
     let ws = map (λ (w : Bor (List ℕ)). w.now) c.args.words.now in
-    let gs = c.deref.result.now in
-    let read : Signeds ws gs = subst (Signeds ws) (sym c.deref.ensures.value) (MatchOption-at_some (Unwritten Signeds ws) (λ v. Signeds ws (vec_items v)) c.in-Some.gains c.in-Some.is c.in_ok-gains.ensures.reads_the_numbers) in
-    word_found c.args.code ws gs c.find.result c.of_word.result read c.find.ensures.answers_the_pick_and_its_correlation c.of_word.ensures.tells_the_word_or_the_refusal
+    let p = err_from_is_err_and c.from_residual.result c.from_residual.ensures.1 in
+    rw (p.1, p.2) (not_read signed ws (Finds_in c.args.code) c.in_err-gains.field-0.0 c.in_err-gains.ensures.reads_the_numbers)
+
+pub returns : goal.returns
+returns c =
+    let ws = map (λ (w : Bor (List ℕ)). w.now) c.args.words.now in
+    let found = c.told.ensures.tells_the_word_or_the_refusal ∙ ap told c.find.ensures.answers_the_pick_and_its_correlation in
+    even_then c.told.result (Reads Signeds ws (Finds_in c.args.code)) (read_words signed ws (Finds_in c.args.code) c.deref.result.now c.told.result (rw c.deref.ensures.value c.in_ok-gains.ensures.reads_the_numbers) found)

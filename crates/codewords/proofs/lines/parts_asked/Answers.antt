@@ -1,15 +1,43 @@
-use Rattle.std.proofs.Common.{ℕ, List, map, vec_items, sym, subst, Bor}
-use Rattle.std.proofs.lemmas.Option.{MatchOption-at_some}
-use Rattle.codewords.specs.Numbers.{Signeds, Unsigneds, Unwritten}
-use Rattle.codewords.proofs.Replies.{parts_found}
+use Rattle.std.proofs.Common.{ℕ, List, length, map, ◌∙◌, ap, ℤ, Err, Result, Bor}
+use Rattle.std.proofs.lemmas.Result.{err_from_is_err_and}
+use Rattle.codes.specs.Listed.{listed}
+use Rattle.tasks.specs.Numbers.{Reads, Signeds}
+use Rattle.tasks.specs.declared.failure.Failure.{Failure}
+use Rattle.tasks.proofs.Responses.{even_then, unless_weaker}
+use Rattle.tasks.proofs.Written.{signed, unsigned, read_words, not_read}
+use Rattle.codewords.specs.declared.found.Codeword.{Codeword}
+use Rattle.codewords.specs.Found.{told}
+use Rattle.codewords.specs.Lines.{FindsWord, PartsAnswer}
 use Rattle.codewords.proofs.lines.parts_asked.Goals as goal
+
+abbrev Finds_in : List ℕ → List ℤ → Result Codeword Failure → Type 0
+Finds_in vs gs = FindsWord (listed (length gs) vs) gs
+
+abbrev Gains_in : List (List ℕ) → List ℕ → Result Codeword Failure → Type 0
+Gains_in gains vs = Reads Signeds gains (Finds_in vs)
+
+pub returns-in_err-list : goal.returns-in_err-list
+returns-in_err-list c =
+    let list = map (λ (w : Bor (List ℕ)). w.now) c.args.list.now in
+    let gains = map (λ (w : Bor (List ℕ)). w.now) c.args.gains.now in
+    let p = err_from_is_err_and c.from_residual.result c.from_residual.ensures.1 in
+    rw (p.1, p.2) (not_read unsigned list (Gains_in gains) c.in_err-list.field-0.0 c.in_err-list.ensures.reads_the_numbers)
+
+pub returns-in_err-gains : goal.returns-in_err-gains
+returns-in_err-gains c =
+    let list = map (λ (w : Bor (List ℕ)). w.now) c.args.list.now in
+    let gains = map (λ (w : Bor (List ℕ)). w.now) c.args.gains.now in
+    let vs = c.in_ok-list.list.items in
+    let e = c.in_err-gains.field-0.0 in
+    let p = err_from_is_err_and c.from_residual-in_err-gains.result c.from_residual-in_err-gains.ensures.1 in
+    rw (p.1, p.2) (unless_weaker (Err e) (Gains_in gains vs) (PartsAnswer list gains) (λ r. read_words unsigned list (Gains_in gains) vs r c.in_ok-list.ensures.reads_the_numbers) (not_read signed gains (Finds_in vs) e c.in_err-gains.ensures.reads_the_numbers))
 
 pub returns : goal.returns
 returns c =
     let list = map (λ (w : Bor (List ℕ)). w.now) c.args.list.now in
     let gains = map (λ (w : Bor (List ℕ)). w.now) c.args.gains.now in
     let vs = c.deref.result.now in
-    let gs = c.deref-2.result.now in
-    let listed : Unsigneds list vs = subst (Unsigneds list) (sym c.deref.ensures.value) (MatchOption-at_some (Unwritten Unsigneds list) (λ v. Unsigneds list (vec_items v)) c.in-Some.list c.in-Some.is c.in_ok-list.ensures.reads_the_numbers) in
-    let gained : Signeds gains gs = subst (Signeds gains) (sym c.deref-2.ensures.value) (MatchOption-at_some (Unwritten Signeds gains) (λ v. Signeds gains (vec_items v)) c.in-Some-2.gains c.in-Some-2.is c.in_ok-gains.ensures.reads_the_numbers) in
-    parts_found list gains vs gs c.find_listed.result c.of_word.result listed gained c.find_listed.ensures.answers_the_pick_and_its_correlation c.of_word.ensures.tells_the_word_or_the_refusal
+    let found = c.told.ensures.tells_the_word_or_the_refusal ∙ ap told c.find_listed.ensures.answers_the_pick_and_its_correlation in
+    even_then c.told.result (PartsAnswer list gains)
+    (read_words unsigned list (Gains_in gains) vs c.told.result (rw c.deref.ensures.value c.in_ok-list.ensures.reads_the_numbers)
+    (read_words signed gains (Finds_in vs) c.deref-2.result.now c.told.result (rw c.deref-2.ensures.value c.in_ok-gains.ensures.reads_the_numbers) found))

@@ -1,31 +1,34 @@
-use Rattle.std.proofs.Common.{ℕ, ◌-◌, ◌≤◌, List, map, length, take, drop, ℤ, Some, vec_items, sym, subst, Bor, rules}
-use Rattle.std.proofs.lemmas.Result.{IfOk-weaker}
-use Rattle.std.proofs.lemmas.Option.{MatchOption-at_some, MatchOption-at_none}
-use Rattle.nearest.specs.Lines.{Readings, Finds, Told}
-use Rattle.nearest.specs.Tasks.{meaning_of}
-use Rattle.nearest.proofs.Texts.{told_none, told_some, told_no_readings, asked_found}
+use Rattle.std.proofs.Common.{◌≡◌, ℕ, List, ◌∷◌, map, length, ℤ, Err, Result, rules, Bor}
+use Rattle.std.proofs.lemmas.Result.{err_from_is_err_and}
+use Rattle.tasks.specs.declared.failure.Failure.{Failure}
+use Rattle.tasks.specs.Numbers.{Reads, Signeds}
+use Rattle.tasks.proofs.Responses.{unless_weaker}
+use Rattle.tasks.proofs.Written.{signed, unsigned, read_word, read_words, not_read}
+use Rattle.nearest.specs.declared.found.Nearest.{Nearest}
+use Rattle.nearest.specs.declared.sets.Lattice.{Lattice}
+use Rattle.nearest.specs.Lines.{Finds, Asks}
+use Rattle.nearest.specs.Sets.{meaning_of}
 use Rattle.nearest.proofs.lines.asked.Goals as goal
 
--- the words behind the step
-abbrev behind : List (Bor (List ℕ)) → List (List ℕ)
-behind words = map (λ w. w.now) (take (length words - 1) (drop 1 words))
+abbrev Finds_at : Lattice → ℕ → List ℤ → Result Nearest Failure → Type 0
+Finds_at l q rs = Finds (meaning_of l (length rs)) rs q
 
-pub returns-in_default : goal.returns-in_default
-returns-in_default c = told_none c.args.words.now c.args.lattice (search rules)
+pub returns-in_err-numbers : goal.returns-in_err-numbers
+returns-in_err-numbers c =
+    let cut : c.args.words.now ≡ c.in_ok-step.step.now ∷ c.in_ok-step.rest.now = search rules in
+    let word = c.in_ok-step.step.now.now in
+    let ws = map (λ (w : Bor (List ℕ)). w.now) c.in_ok-step.rest.now in
+    let q = c.in_ok-step-2.step in
+    let l = c.args.lattice in
+    let e = c.in_err-numbers.field-0.0 in
+    let p = err_from_is_err_and c.from_residual-in_err-numbers.result c.from_residual-in_err-numbers.ensures.1 in
+    rw (cut, p.1, p.2) (unless_weaker (Err e) (Reads Signeds ws (Finds_at l q)) (Asks l (word ∷ ws)) (λ r. read_word unsigned word _ q r c.in_ok-step-2.ensures.value) (not_read signed ws (Finds_at l q) e c.in_err-numbers.ensures.reads_the_numbers))
 
-pub returns-in-Some : goal.returns-in-Some
-returns-in-Some c =
-    let some : 1 ≤ length c.args.words.now = search rules in
-    let step = c.in-Ok.ensures.value.0 in
-    let rs = c.deref.result.now in
-    let read : Readings (behind c.args.words.now) rs = subst (Readings (behind c.args.words.now)) (sym c.deref.ensures.value)
-    (MatchOption-at_some ((zs : List ℤ) → Readings (behind c.args.words.now) zs → ⊥) (λ v. Readings (behind c.args.words.now) (vec_items v)) c.in-Some.readings c.in-Some.is c.in_ok-readings.ensures) in
-    IfOk-weaker c.nearest.result (λ a. Finds (meaning_of c.args.lattice (length rs)) rs c.in-Ok.step a) (λ a. Told (Some c.args.lattice) (map (λ w. w.now) c.args.words.now) a)
-    (λ a f. told_some c.args.words.now _ c.args.lattice a some (asked_found c.args.lattice _ (behind c.args.words.now) c.in-Ok.step rs a (record { digits = step.0.0; fits = step.0.1; is = step.1 }) read f))
-    c.nearest.ensures
-
-pub returns-in-None : goal.returns-in-None
-returns-in-None c =
-    let some : 1 ≤ length c.args.words.now = search rules in
-    let none = MatchOption-at_none ((zs : List ℤ) → Readings (behind c.args.words.now) zs → ⊥) (λ v. Readings (behind c.args.words.now) (vec_items v)) c.in-None.is c.in_ok-readings.ensures in
-    told_no_readings c.args.words.now c.args.lattice some none
+pub returns : goal.returns
+returns c =
+    let cut : c.args.words.now ≡ c.in_ok-step.step.now ∷ c.in_ok-step.rest.now = search rules in
+    let word = c.in_ok-step.step.now.now in
+    let ws = map (λ (w : Bor (List ℕ)). w.now) c.in_ok-step.rest.now in
+    let q = c.in_ok-step-2.step in
+    let l = c.args.lattice in
+    rw cut (unless_weaker c.nearest.result (Finds_at l q c.deref.result.now) (Asks l (word ∷ ws)) (λ r f. read_word unsigned word _ q r c.in_ok-step-2.ensures.value (read_words signed ws (Finds_at l q) _ r (rw c.deref.ensures.value c.in_ok-numbers.ensures.reads_the_numbers) f)) c.nearest.ensures)

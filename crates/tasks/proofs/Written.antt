@@ -1,0 +1,85 @@
+-- The numbers that words write, as they are read word by word.
+use Rattle.std.proofs.Common.{◌≡◌, ℕ, zero, suc, ◌+◌, ◌<◌, List, [], ◌∷◌, ◌++◌, map, length, get_or, take, sym, refl, ◌∙◌, ap₂, subst, Ok, Err, Result, w32, arith, Bor}
+use Rattle.std.specs.List.{AllZip, Any}
+use Rattle.std.specs.Str.Parse.{ParsesSigned, ParsesUnsigned, ExplainsSignedError, ExplainsUnsignedError, HasSignedDigitsIfOk, HasUnsignedDigitsIfOk}
+use Rattle.std.proofs.lemmas.Slice.Zip.{all_zipped_more}
+use Rattle.std.proofs.lemmas.List.{map_more, length-map, get_or-map}
+use Rattle.tasks.specs.declared.failure.Failure.{Failure}
+use Rattle.tasks.specs.declared.failure.Failure.TheVariants.{Refused, Unreadable, Memory}
+use Rattle.tasks.specs.Failures.{UnlessMemory}
+use Rattle.tasks.specs.Numbers.{WritesSigned, WritesUnsigned, Unwritten, Reads, Parses}
+
+-- ---- word by word
+
+module _ (words : List (Bor (List ℕ))) (d : Bor (List ℕ)) (i : ℕ) (here : i < length words) where
+  pub numbers_more : {N : Type 0} (R : List ℕ → N → Type 0) (xs more : List N) (x : N) → AllZip R (map (λ w. w.now) (take i words)) xs → R (get_or words i d).now x → more ≡ xs ++ x ∷ [] → AllZip R (map (λ w. w.now) (take (i + 1) words)) more
+  numbers_more R xs more x h k e = rw (e, map_more (λ (w : Bor (List ℕ)). w.now) words i d here) (all_zipped_more R (map (λ w. w.now) (take i words)) xs (get_or words i d).now x h k)
+
+  pub some_word : (P : List ℕ → Type 0) → P (get_or words i d).now → Any P (map (λ w. w.now) words)
+  some_word P p = (i, (get_or words i d).now, simp length-map here, get_or-map (λ (w : Bor (List ℕ)). w.now) words i d (get_or words i d).now here, p)
+
+-- ---- what was read
+
+pub reads_nothing : {X N T : Type 0} {Writes : X → N → Type 0} (x : X) (Then : N → Result T Failure → Type 0) → Unwritten Writes x → Reads Writes x Then (Err Unreadable)
+reads_nothing x Then none = record { unwritten = λ _. refl; written = λ n w. absurd (none n w) }
+
+reads_written : {X N T : Type 0} {Writes : X → N → Type 0} (x : X) (Then : N → Result T Failure → Type 0) → ((m n : N) → Writes x m → Writes x n → m ≡ n) → (n : N) (r : Result T Failure) → Writes x n → Then n r → Reads Writes x Then r
+reads_written x Then same n r w t = record { unwritten = λ none. absurd (none n w); written = λ m v. subst (λ k. Then k r) (same n m w v) t }
+
+-- ---- by what a parse of a word gives
+
+-- a parse gives the one number that a word writes, and an error where it writes none
+pub record Parsing {N E : Type 0} (Gives : List ℕ → Result N E → Type 0) (Writes : List ℕ → N → Type 0) : Type 0 where
+  pub taken : (w : List ℕ) (x : N) → Gives w (Ok x) → Writes w x
+  pub refused : (w : List ℕ) (e : E) → Gives w (Err e) → Unwritten Writes w
+  pub same : (w : List ℕ) (x y : N) → Writes w x → Writes w y → x ≡ y
+
+pub signed : Parsing (λ w r. ParsesSigned w32 10 w r × ExplainsSignedError 10 w r × HasSignedDigitsIfOk w r) WritesSigned
+signed = record {
+  taken = λ w x h. record { digits = h.0.0.0; fits = h.0.0.1; is = h.0.1 };
+  refused = λ w e h x k. h.0 (k.digits, k.fits);
+  same = λ w x y h k. h.is ∙ sym k.is;
+}
+
+pub unsigned : Parsing (λ w r. ParsesUnsigned 32 10 w r × ExplainsUnsignedError 10 w r × HasUnsignedDigitsIfOk w r) WritesUnsigned
+unsigned = record {
+  taken = λ w x h. record { digits = h.0.0.0; fits = h.0.0.1; is = h.0.1 };
+  refused = λ w e h x k. h.0 (k.digits, k.fits);
+  same = λ w x y h k. h.is ∙ sym k.is;
+}
+
+module _ {N E : Type 0} {Gives : List ℕ → Result N E → Type 0} {Writes : List ℕ → N → Type 0} (p : Parsing Gives Writes) where
+  each_taken : (ws : List (List ℕ)) (xs : List N) → AllZip (λ w x. Gives w (Ok x)) ws xs → AllZip Writes ws xs
+  each_taken [] [] h = h
+  each_taken [] (x ∷ xs) h = absurd h
+  each_taken (w ∷ ws) [] h = absurd h
+  each_taken (w ∷ ws) (x ∷ xs) h = (p.taken w x h.0, each_taken ws xs h.1)
+
+  each_same : (ws : List (List ℕ)) (xs ys : List N) → AllZip Writes ws xs → AllZip Writes ws ys → xs ≡ ys
+  each_same [] [] [] h k = refl
+  each_same [] [] (y ∷ ys) h k = absurd k
+  each_same [] (x ∷ xs) ys h k = absurd h
+  each_same (w ∷ ws) [] ys h k = absurd h
+  each_same (w ∷ ws) (x ∷ xs) [] h k = absurd k
+  each_same (w ∷ ws) (x ∷ xs) (y ∷ ys) h k = ap₂ (λ (u : N) (v : List N). u ∷ v) (p.same w x y h.0 k.0) (each_same ws xs ys h.1 k.1)
+
+  some_refused : (ws : List (List ℕ)) → Any (λ w. (e : E) × Gives w (Err e)) ws → Unwritten (AllZip Writes) ws
+  some_refused [] (i, w, here, at, h) xs k = absurd (omega arith)
+  some_refused (v ∷ ws) h [] k = k
+  some_refused (v ∷ ws) (zero, w, here, at, h) (x ∷ xs) k = p.refused v h.0 (rw at h.1) x k.0
+  some_refused (v ∷ ws) (suc i, w, here, at, h) (x ∷ xs) k = some_refused ws (i, w, omega arith, at, h) xs k.1
+
+  module _ {T : Type 0} where
+    -- a word was read, and what follows
+    pub read_word : (w : List ℕ) (Then : N → Result T Failure → Type 0) (x : N) (r : Result T Failure) → Gives w (Ok x) → Then x r → Reads Writes w Then r
+    read_word w Then x r g t = reads_written w Then (p.same w) x r (p.taken w x g) t
+
+    -- words were read, and what follows
+    pub read_words : (ws : List (List ℕ)) (Then : List N → Result T Failure → Type 0) (xs : List N) (r : Result T Failure) → AllZip (λ w x. Gives w (Ok x)) ws xs → Then xs r → Reads (AllZip Writes) ws Then r
+    read_words ws Then xs r g t = reads_written ws Then (each_same ws) xs r (each_taken ws xs g) t
+
+    -- words were not read
+    pub not_read : (ws : List (List ℕ)) (Then : List N → Result T Failure → Type 0) (e : Failure) → Parses Gives ws (Err e) → UnlessMemory (Err e) (Reads (AllZip Writes) ws Then)
+    not_read ws Then (Refused e) h = absurd h
+    not_read ws Then Unreadable h = reads_nothing ws Then (some_refused ws h)
+    not_read ws Then (Memory _) h = h

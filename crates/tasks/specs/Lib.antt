@@ -1,0 +1,3 @@
+pub mod Failures
+pub mod Numbers
+pub mod Lines
