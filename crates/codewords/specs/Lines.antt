@@ -1,13 +1,12 @@
 -- What the words of a line are answered.
-use Rattle.std.specs.Prelude.{◌≡◌, ℕ, ◌+◌, List, [], ◌∷◌, length, take, drop, position, ℤ, Ok, Err, codes, Option, Result, MatchOption}
+use Rattle.std.specs.Prelude.{◌≡◌, ℕ, ◌+◌, List, length, take, drop, position, ℤ, Err, codes, Option, Result, MatchOption}
 use Rattle.std.specs.Str.{bytes_eq as same_text}
-use Rattle.finders.specs.declared.refusals.Refusal.{Refusal}
-use Rattle.finders.specs.declared.refusals.Refusal.TheVariants.{Kind}
 use Rattle.finders.specs.Meanings.{Meaning}
 use Rattle.finders.specs.WordFinders.{WordFit, find_answer as find_word}
 use Rattle.codes.specs.Listed.{listed}
 use Rattle.tasks.specs.declared.failure.Failure.{Failure}
-use Rattle.tasks.specs.declared.failure.Failure.TheVariants.{Refused, Unreadable}
+use Rattle.tasks.specs.declared.failure.Failure.TheVariants.{Unreadable}
+use Rattle.tasks.specs.Lines.{AnswersByName}
 use Rattle.tasks.specs.Numbers.{Signeds, Unsigneds, Reads}
 use Rattle.codewords.specs.declared.found.Codeword.{Codeword}
 use Rattle.codewords.specs.declared.names.Task.{Task}
@@ -45,11 +44,6 @@ abbrev pub TaskAnswer : Task → List (List ℕ) → Result Codeword Failure →
 TaskAnswer (Codewords k) ws r = CodeAnswer k ws r
 TaskAnswer Listed ws r = ListedAnswer ws r
 
-abbrev pub Told : Result Task Refusal → List (List ℕ) → Result Codeword Failure → Type 0
-Told (Ok t) ws r = TaskAnswer t ws r
-Told (Err e) ws r = r ≡ Err (Refused e)
-
--- the answer to the words of a line
+-- the answer to the words of a line: the name of a task, and what it asks for
 abbrev pub Answers : List (List ℕ) → Result Codeword Failure → Type 0
-Answers [] r = r ≡ Err (Refused Kind)
-Answers (name ∷ ws) r = Told (named name) ws r
+Answers = AnswersByName (λ name t. t ≡ named name) TaskAnswer

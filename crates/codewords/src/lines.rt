@@ -7,7 +7,6 @@ ghost use Rattle.codewords.specs.Lines.{first_slash, CodeAnswer, PartsAnswer, Li
 use super::found::{Codeword, told};
 use super::names::Task;
 use super::words::{Code, find_listed};
-use finders::refusals::Refusal;
 use std::alloc::{AllocError, Global};
 use tasks::failure::Failure;
 use tasks::numbers::numbers;
@@ -37,6 +36,7 @@ fn parts_asked(heap: Global, list: &[&str], gains: &[&str]) -> Result<Codeword, 
 }
 
 // What a list of words, a slash and gains are answered.
+#[tactic(auto, using(crate::proofs::Slashes::parted))]
 fn listed_asked(heap: Global, words: &[&str]) -> Result<Codeword, Failure>
     ensures { UnlessMemory result (ListedAnswer (map (λ w. w.now) words.now)) }
 {
@@ -54,17 +54,9 @@ fn asked(heap: Global, task: Task, words: &[&str]) -> Result<Codeword, Failure>
     }
 }
 
-// What the words of a line are answered.
-fn answer(heap: Global, words: &[&str]) -> Result<Codeword, Failure>
-    ensures { UnlessMemory result (Answers (map (λ w. w.now) words.now)) }
-{
-    let (name, rest) = words.split_first().ok_or(Refusal::Kind)?;
-    asked(heap, name.parse()?, rest)
-}
-
 // The line that is printed for a line that was read.
 pub fn respond(heap: Global, line: &str) -> Result<String, AllocError>
     ensures answers_the_words_of_the_line { IfOk result (λ s. Responds Answers (λ found. Some (codeword_text found)) line.now (string_bytes s)) }
 {
-    tasks::lines::respond(heap, line, |words| answer(heap, words))
+    tasks::lines::respond(heap, line, |task, words| asked(heap, task, words))
 }

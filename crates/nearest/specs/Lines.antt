@@ -1,11 +1,11 @@
 -- What the words of a line are answered.
 use Rattle.std.specs.Prelude.{◌≡◌, ℕ, List, [], ◌∷◌, length, ℤ, Ok, Err, vec_items, Result}
 use Rattle.finders.specs.declared.refusals.Refusal.{Refusal}
-use Rattle.finders.specs.declared.refusals.Refusal.TheVariants.{Kind}
 use Rattle.finders.specs.Meanings.{Meaning}
 use Rattle.finders.specs.PointFinders.{PointFit, find_answer, find_place}
 use Rattle.tasks.specs.declared.failure.Failure.{Failure}
 use Rattle.tasks.specs.declared.failure.Failure.TheVariants.{Refused, Unreadable}
+use Rattle.tasks.specs.Lines.{AnswersByName}
 use Rattle.tasks.specs.Numbers.{WritesUnsigned, Signeds, Reads}
 use Rattle.nearest.specs.declared.found.Nearest.{Nearest}
 use Rattle.nearest.specs.declared.sets.Lattice.{Lattice}
@@ -29,11 +29,6 @@ abbrev pub Asks : Lattice → List (List ℕ) → Result Nearest Failure → Typ
 Asks l [] r = r ≡ Err Unreadable
 Asks l (step ∷ ws) r = Reads WritesUnsigned step (λ q. Reads Signeds ws (λ rs. Finds (meaning_of l (length rs)) rs q)) r
 
-abbrev pub Told : Result Lattice Refusal → List (List ℕ) → Result Nearest Failure → Type 0
-Told (Ok l) ws r = Asks l ws r
-Told (Err e) ws r = r ≡ Err (Refused e)
-
 -- the answer to the words of a line: the name of a set, a step, readings
 abbrev pub Answers : List (List ℕ) → Result Nearest Failure → Type 0
-Answers [] r = r ≡ Err (Refused Kind)
-Answers (name ∷ ws) r = Told (named name) ws r
+Answers = AnswersByName (λ name l. l ≡ named name) Asks

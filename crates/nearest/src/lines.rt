@@ -7,11 +7,11 @@ ghost use Rattle.nearest.specs.Sets.{meaning_of};
 
 use super::found::Nearest;
 use super::sets::Lattice;
-use finders::refusals::Refusal;
 use std::alloc::{AllocError, Global};
 use tasks::failure::Failure;
 use tasks::numbers::numbers;
 
+// The nearest point to readings at a step.
 fn nearest(heap: Global, lattice: Lattice, step: u32, readings: &[i32]) -> Result<Nearest, Failure>
     ensures { UnlessMemory result (Finds (meaning_of lattice (length readings.now)) readings.now step) }
 {
@@ -29,17 +29,9 @@ fn asked(heap: Global, lattice: Lattice, words: &[&str]) -> Result<Nearest, Fail
     nearest(heap, lattice, step, &numbers::<i32>(heap, rest)?)
 }
 
-// What the words of a line are answered.
-fn answer(heap: Global, words: &[&str]) -> Result<Nearest, Failure>
-    ensures { UnlessMemory result (Answers (map (λ w. w.now) words.now)) }
-{
-    let (name, rest) = words.split_first().ok_or(Refusal::Kind)?;
-    asked(heap, name.parse()?, rest)
-}
-
 // The line that is printed for a line that was read.
 pub fn respond(heap: Global, line: &str) -> Result<String, AllocError>
     ensures answers_the_words_of_the_line { IfOk result (λ s. Responds Answers (λ nearest. Some (nearest_text nearest)) line.now (string_bytes s)) }
 {
-    tasks::lines::respond(heap, line, |words| answer(heap, words))
+    tasks::lines::respond(heap, line, |lattice, words| asked(heap, lattice, words))
 }

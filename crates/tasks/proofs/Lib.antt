@@ -1,3 +1,3 @@
 pub mod Split
 pub mod Written
-pub mod Responses
+pub mod Unless

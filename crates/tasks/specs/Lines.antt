@@ -1,9 +1,11 @@
 -- A line, its words, and what is printed for it.
 use Rattle.std.specs.Prelude.{◌≡◌, ℕ, ◌<◌, List, [], ◌∷◌, ◌++◌, map, length, Ok, Err, IfSome, codes, Option, Result}
 use Rattle.std.specs.Char.{is_whitespace, is_not_whitespace}
-use Rattle.std.specs.Fn.{Once, FnOnceReturnsAt}
+use Rattle.std.specs.Fn.{Once, FnOnceReturns}
 use Rattle.std.specs.Str.{NoCharPasses, EmptyOrStartsWithPassing}
 use denote.Ref.{Bor}
+use Rattle.finders.specs.declared.refusals.Refusal.{Refusal}
+use Rattle.finders.specs.declared.refusals.Refusal.TheVariants.{Kind}
 use Rattle.finders.specs.Refusals.{refusal_text}
 use Rattle.tasks.specs.declared.failure.Failure.{Failure}
 use Rattle.tasks.specs.declared.failure.Failure.TheVariants.{Refused, Unreadable, Memory}
@@ -22,9 +24,19 @@ abbrev pub Words : List ℕ → List (List ℕ) → Type 0
 Words bs [] = NoCharPasses is_not_whitespace bs
 Words bs (w ∷ ws) = (rest : List ℕ) × First bs w rest × Words rest ws
 
--- a call of f at the words ws may give r
-abbrev pub AnswersBy : {F T : Type 0} → Once F (Bor (List (Bor (List ℕ))) × Unit {0}) (Result T Failure) → F → List (List ℕ) → Result T Failure → Type 0
-AnswersBy g f ws r = (words : List (Bor (List ℕ))) × (map (λ w. w.now) words ≡ ws) × FnOnceReturnsAt g f words r
+-- a call of f at k and the words ws may give r
+abbrev pub AsksBy : {F K T : Type 0} → Once F (K × (Bor (List (Bor (List ℕ))) × Unit {0})) (Result T Failure) → F → K → List (List ℕ) → Result T Failure → Type 0
+AsksBy g f k ws r = (words : Bor (List (Bor (List ℕ)))) × (map (λ w. w.now) words.now ≡ ws) × FnOnceReturns g f (k, (words, tt)) r
+
+-- the answer to what a name asks of the words ws, or its refusal
+abbrev pub Told : {K T : Type 0} → (K → List (List ℕ) → Result T Failure → Type 0) → Result K Refusal → List (List ℕ) → Result T Failure → Type 0
+Told Asks (Ok k) ws r = Asks k ws r
+Told Asks (Err e) ws r = r ≡ Err (Refused e)
+
+-- the answer to the words of a line: the first names, as Names says, what is asked of the others
+abbrev pub AnswersByName : {K T : Type 0} → (List ℕ → Result K Refusal → Type 0) → (K → List (List ℕ) → Result T Failure → Type 0) → List (List ℕ) → Result T Failure → Type 0
+AnswersByName Names Asks [] r = r ≡ Err (Refused Kind)
+AnswersByName {K} Names Asks (name ∷ ws) r = (k : Result K Refusal) × Names name k × Told Asks k ws r
 
 -- text is printed for an answer; output is the text of what was found
 abbrev pub Prints : {T : Type 0} → (T → Option (List ℕ)) → Result T Failure → List ℕ → Type 0

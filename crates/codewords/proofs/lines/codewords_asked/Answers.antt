@@ -2,7 +2,7 @@ use Rattle.std.proofs.Common.{ℕ, List, length, map, ◌∙◌, ap, ℤ, Result
 use Rattle.std.proofs.lemmas.Result.{err_from_is_err_and}
 use Rattle.tasks.specs.Numbers.{Reads, Signeds}
 use Rattle.tasks.specs.declared.failure.Failure.{Failure}
-use Rattle.tasks.proofs.Responses.{even_then}
+use Rattle.tasks.proofs.Unless.{unless_at_all}
 use Rattle.tasks.proofs.Written.{signed, read_words, not_read}
 use Rattle.codewords.specs.declared.found.Codeword.{Codeword}
 use Rattle.codewords.specs.declared.words.Code.{Code}
@@ -24,4 +24,4 @@ pub returns : goal.returns
 returns c =
     let ws = map (λ (w : Bor (List ℕ)). w.now) c.args.words.now in
     let found = c.told.ensures.tells_the_word_or_the_refusal ∙ ap told c.find.ensures.answers_the_pick_and_its_correlation in
-    even_then c.told.result (Reads Signeds ws (Finds_in c.args.code)) (read_words signed ws (Finds_in c.args.code) c.deref.result.now c.told.result (rw c.deref.ensures.value c.in_ok-gains.ensures.reads_the_numbers) found)
+    unless_at_all c.told.result (Reads Signeds ws (Finds_in c.args.code)) (read_words signed ws (Finds_in c.args.code) c.deref.result.now c.told.result (rw c.deref.ensures.value c.in_ok-gains.ensures.reads_the_numbers) found)

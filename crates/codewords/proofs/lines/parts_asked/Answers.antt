@@ -3,7 +3,7 @@ use Rattle.std.proofs.lemmas.Result.{err_from_is_err_and}
 use Rattle.codes.specs.Listed.{listed}
 use Rattle.tasks.specs.Numbers.{Reads, Signeds}
 use Rattle.tasks.specs.declared.failure.Failure.{Failure}
-use Rattle.tasks.proofs.Responses.{even_then, unless_weaker}
+use Rattle.tasks.proofs.Unless.{unless_at_all, unless_weaker}
 use Rattle.tasks.proofs.Written.{signed, unsigned, read_words, not_read}
 use Rattle.codewords.specs.declared.found.Codeword.{Codeword}
 use Rattle.codewords.specs.Found.{told}
@@ -38,6 +38,6 @@ returns c =
     let gains = map (λ (w : Bor (List ℕ)). w.now) c.args.gains.now in
     let vs = c.deref.result.now in
     let found = c.told.ensures.tells_the_word_or_the_refusal ∙ ap told c.find_listed.ensures.answers_the_pick_and_its_correlation in
-    even_then c.told.result (PartsAnswer list gains)
+    unless_at_all c.told.result (PartsAnswer list gains)
     (read_words unsigned list (Gains_in gains) vs c.told.result (rw c.deref.ensures.value c.in_ok-list.ensures.reads_the_numbers)
     (read_words signed gains (Finds_in vs) c.deref-2.result.now c.told.result (rw c.deref-2.ensures.value c.in_ok-gains.ensures.reads_the_numbers) found))

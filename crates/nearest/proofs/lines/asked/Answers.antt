@@ -2,7 +2,7 @@ use Rattle.std.proofs.Common.{◌≡◌, ℕ, List, ◌∷◌, map, length, ℤ,
 use Rattle.std.proofs.lemmas.Result.{err_from_is_err_and}
 use Rattle.tasks.specs.declared.failure.Failure.{Failure}
 use Rattle.tasks.specs.Numbers.{Reads, Signeds}
-use Rattle.tasks.proofs.Responses.{unless_weaker}
+use Rattle.tasks.proofs.Unless.{unless_weaker}
 use Rattle.tasks.proofs.Written.{signed, unsigned, read_word, read_words, not_read}
 use Rattle.nearest.specs.declared.found.Nearest.{Nearest}
 use Rattle.nearest.specs.declared.sets.Lattice.{Lattice}
