@@ -2,6 +2,7 @@
 use Rattle.std.proofs.Common.{◌≡◌, ℕ, ◌+◌, ◌-◌, nat_lt, Bool, cond, not, List, [], ◌∷◌, map, length, take, drop, Some, None, Err, MatchOption, Option, Result, refl, sym, ap, ap₂, subst, Bor}
 use Rattle.std.specs.List.{position, prefix_len}
 use Rattle.std.proofs.lemmas.List.{length-map, take_rest, take-map, drop-map}
+use Rattle.tasks.specs.Lines.{texts}
 use Rattle.tasks.specs.Failures.{UnlessMemory}
 use Rattle.tasks.specs.declared.failure.Failure.{Failure}
 use Rattle.tasks.specs.declared.failure.Failure.TheVariants.{Unreadable}
@@ -16,9 +17,9 @@ pub position-map : {X Y : Type 0} (p : Y → Bool) (f : X → Y) (xs : List X) �
 position-map p f xs = ap₂ (λ (n k : ℕ). cond (nat_lt n k) (Some n) None) (prefix_len-map (λ y. not (p y)) f xs) (sym (length-map xs f))
 
 -- the words cut at the index i, as the code cuts them
-pub parted : (words : List (Bor (List ℕ))) (i : ℕ) (r : Result Codeword Failure) → first_slash (map (λ w. w.now) words) ≡ Some i →
-    UnlessMemory r (PartsAnswer (map (λ w. w.now) (take i words)) (map (λ w. w.now) (take (length words - (i + 1)) (drop (i + 1) words)))) → UnlessMemory r (ListedAnswer (map (λ w. w.now) words))
+pub parted : (words : List (Bor (List ℕ))) (i : ℕ) (r : Result Codeword Failure) → first_slash (texts words) ≡ Some i →
+    UnlessMemory r (PartsAnswer (texts (take i words)) (texts (take (length words - (i + 1)) (drop (i + 1) words)))) → UnlessMemory r (ListedAnswer (texts words))
 parted words i r at h =
-    let ws = map (λ (w : Bor (List ℕ)). w.now) words in
+    let ws = texts words in
     let parts : UnlessMemory r (PartsAnswer (take i ws) (drop (i + 1) ws)) = rw (take-map (λ (w : Bor (List ℕ)). w.now) i words, drop-map (λ (w : Bor (List ℕ)). w.now) (i + 1) words) (rw (take_rest words (i + 1)) at h) in
     subst (λ (o : Option ℕ). UnlessMemory r (λ s. MatchOption o (s ≡ Err Unreadable) (λ k. PartsAnswer (take k ws) (drop (k + 1) ws) s))) (sym at) parts

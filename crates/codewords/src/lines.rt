@@ -1,6 +1,6 @@
-ghost use Rattle.std.specs.Prelude.{◌≡◌, map, IfOk, Some, string_bytes};
+ghost use Rattle.std.specs.Prelude.{◌≡◌, IfOk, Some, string_bytes};
 ghost use Rattle.tasks.specs.Failures.{UnlessMemory};
-ghost use Rattle.tasks.specs.Lines.{Responds};
+ghost use Rattle.tasks.specs.Lines.{texts, Responds};
 ghost use Rattle.codewords.specs.Found.{codeword_text};
 ghost use Rattle.codewords.specs.Lines.{first_slash, CodeAnswer, PartsAnswer, ListedAnswer, TaskAnswer, Answers};
 
@@ -13,7 +13,7 @@ use tasks::numbers::numbers;
 
 // What gains are answered.
 fn codewords_asked(heap: Global, code: Code, words: &[&str]) -> Result<Codeword, Failure>
-    ensures { UnlessMemory result (CodeAnswer code (map (λ w. w.now) words.now)) }
+    ensures { UnlessMemory result (CodeAnswer code (texts words.now)) }
 {
     let gains = numbers::<i32>(heap, words)?;
     told(code.find(&gains))
@@ -21,14 +21,14 @@ fn codewords_asked(heap: Global, code: Code, words: &[&str]) -> Result<Codeword,
 
 // Where the first slash stands.
 fn slash(words: &[&str]) -> Option<usize>
-    ensures is_the_first { result ≡ first_slash (map (λ w. w.now) words.now) }
+    ensures is_the_first { result ≡ first_slash (texts words.now) }
 {
     words.iter().position(|word| *word == "/")
 }
 
 // What a list of words and gains are answered.
 fn parts_asked(heap: Global, list: &[&str], gains: &[&str]) -> Result<Codeword, Failure>
-    ensures { UnlessMemory result (PartsAnswer (map (λ w. w.now) list.now) (map (λ w. w.now) gains.now)) }
+    ensures { UnlessMemory result (PartsAnswer (texts list.now) (texts gains.now)) }
 {
     let list = numbers::<u32>(heap, list)?;
     let gains = numbers::<i32>(heap, gains)?;
@@ -38,7 +38,7 @@ fn parts_asked(heap: Global, list: &[&str], gains: &[&str]) -> Result<Codeword, 
 // What a list of words, a slash and gains are answered.
 #[tactic(auto, using(crate::proofs::Slashes::parted))]
 fn listed_asked(heap: Global, words: &[&str]) -> Result<Codeword, Failure>
-    ensures { UnlessMemory result (ListedAnswer (map (λ w. w.now) words.now)) }
+    ensures { UnlessMemory result (ListedAnswer (texts words.now)) }
 {
     let slash = slash(words).ok_or(Failure::Unreadable)?;
     parts_asked(heap, &words[..slash], &words[slash + 1..])
@@ -46,7 +46,7 @@ fn listed_asked(heap: Global, words: &[&str]) -> Result<Codeword, Failure>
 
 // What the words behind the name of a task are answered.
 fn asked(heap: Global, task: Task, words: &[&str]) -> Result<Codeword, Failure>
-    ensures { UnlessMemory result (TaskAnswer task (map (λ w. w.now) words.now)) }
+    ensures { UnlessMemory result (TaskAnswer task (texts words.now)) }
 {
     match task {
         Task::Codewords(code) => codewords_asked(heap, code, words),

@@ -1,6 +1,6 @@
-ghost use Rattle.std.specs.Prelude.{map, length, IfOk, Some, string_bytes};
+ghost use Rattle.std.specs.Prelude.{length, IfOk, Some, string_bytes};
 ghost use Rattle.tasks.specs.Failures.{UnlessMemory};
-ghost use Rattle.tasks.specs.Lines.{Responds};
+ghost use Rattle.tasks.specs.Lines.{texts, Responds};
 ghost use Rattle.nearest.specs.Found.{nearest_text};
 ghost use Rattle.nearest.specs.Lines.{Finds, Asks, Answers};
 ghost use Rattle.nearest.specs.Sets.{meaning_of};
@@ -22,7 +22,7 @@ fn nearest(heap: Global, lattice: Lattice, step: u32, readings: &[i32]) -> Resul
 
 // What a step and readings are answered.
 fn asked(heap: Global, lattice: Lattice, words: &[&str]) -> Result<Nearest, Failure>
-    ensures { UnlessMemory result (Asks lattice (map (λ w. w.now) words.now)) }
+    ensures { UnlessMemory result (Asks lattice (texts words.now)) }
 {
     let (step, rest) = words.split_first().ok_or(Failure::Unreadable)?;
     let step = step.parse::<u32>()?;

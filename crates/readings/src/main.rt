@@ -11,7 +11,7 @@ use worked::all_worked_readings_hold;
 
 const STEP: u32 = 10;
 
-fn print_point(rt: &HostRuntime, readings: &[i32; 4]) -> io::Result<()> {
+fn print_point(rt: &impl Print, readings: &[i32; 4]) -> io::Result<()> {
     let mut place = [0; 4];
     match LatticeD::new(4).find(readings, STEP, &mut place) {
         Ok(distance) => println!(rt; "D of {readings:?} is {place:?} at {distance}"),

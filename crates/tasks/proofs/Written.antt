@@ -1,9 +1,10 @@
 -- The numbers that words write, as they are read word by word.
-use Rattle.std.proofs.Common.{◌≡◌, ℕ, zero, suc, ◌+◌, ◌<◌, List, [], ◌∷◌, ◌++◌, map, length, get_or, take, sym, refl, ◌∙◌, ap₂, subst, Ok, Err, Result, w32, arith, Bor}
+use Rattle.std.proofs.Common.{◌≡◌, ℕ, zero, suc, ◌+◌, ◌<◌, List, [], ◌∷◌, ◌++◌, length, get_or, take, sym, refl, ◌∙◌, ap₂, subst, Ok, Err, Result, w32, arith, Bor}
 use Rattle.std.specs.List.{AllZip, Any}
 use Rattle.std.specs.Str.Parse.{ParsesSigned, ParsesUnsigned, ExplainsSignedError, ExplainsUnsignedError, HasSignedDigitsIfOk, HasUnsignedDigitsIfOk}
 use Rattle.std.proofs.lemmas.Slice.Zip.{all_zipped_more}
 use Rattle.std.proofs.lemmas.List.{map_more, length-map, get_or-map}
+use Rattle.tasks.specs.Lines.{texts}
 use Rattle.tasks.specs.declared.failure.Failure.{Failure}
 use Rattle.tasks.specs.declared.failure.Failure.TheVariants.{Refused, Unreadable, Memory}
 use Rattle.tasks.specs.Failures.{UnlessMemory}
@@ -12,15 +13,15 @@ use Rattle.tasks.specs.Numbers.{WritesSigned, WritesUnsigned, Unwritten, Reads, 
 -- ---- word by word
 
 module _ (words : List (Bor (List ℕ))) (d : Bor (List ℕ)) (i : ℕ) (here : i < length words) where
-  pub numbers_more : {N : Type 0} (R : List ℕ → N → Type 0) (xs more : List N) (x : N) → AllZip R (map (λ w. w.now) (take i words)) xs → R (get_or words i d).now x → more ≡ xs ++ x ∷ [] → AllZip R (map (λ w. w.now) (take (i + 1) words)) more
-  numbers_more R xs more x h k e = rw (e, map_more (λ (w : Bor (List ℕ)). w.now) words i d here) (all_zipped_more R (map (λ w. w.now) (take i words)) xs (get_or words i d).now x h k)
+  pub numbers_more : {N : Type 0} (R : List ℕ → N → Type 0) (xs more : List N) (x : N) → AllZip R (texts (take i words)) xs → R (get_or words i d).now x → more ≡ xs ++ x ∷ [] → AllZip R (texts (take (i + 1) words)) more
+  numbers_more R xs more x h k e = rw (e, map_more (λ (w : Bor (List ℕ)). w.now) words i d here) (all_zipped_more R (texts (take i words)) xs (get_or words i d).now x h k)
 
-  pub some_word : (P : List ℕ → Type 0) → P (get_or words i d).now → Any P (map (λ w. w.now) words)
+  pub some_word : (P : List ℕ → Type 0) → P (get_or words i d).now → Any P (texts words)
   some_word P p = (i, (get_or words i d).now, simp length-map here, get_or-map (λ (w : Bor (List ℕ)). w.now) words i d (get_or words i d).now here, p)
 
 -- ---- what was read
 
-pub reads_nothing : {X N T : Type 0} {Writes : X → N → Type 0} (x : X) (Then : N → Result T Failure → Type 0) → Unwritten Writes x → Reads Writes x Then (Err Unreadable)
+reads_nothing : {X N T : Type 0} {Writes : X → N → Type 0} (x : X) (Then : N → Result T Failure → Type 0) → Unwritten Writes x → Reads Writes x Then (Err Unreadable)
 reads_nothing x Then none = record { unwritten = λ _. refl; written = λ n w. absurd (none n w) }
 
 reads_written : {X N T : Type 0} {Writes : X → N → Type 0} (x : X) (Then : N → Result T Failure → Type 0) → ((m n : N) → Writes x m → Writes x n → m ≡ n) → (n : N) (r : Result T Failure) → Writes x n → Then n r → Reads Writes x Then r

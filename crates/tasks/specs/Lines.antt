@@ -24,9 +24,13 @@ abbrev pub Words : List ℕ → List (List ℕ) → Type 0
 Words bs [] = NoCharPasses is_not_whitespace bs
 Words bs (w ∷ ws) = (rest : List ℕ) × First bs w rest × Words rest ws
 
+-- the texts that words refer to
+abbrev pub texts : List (Bor (List ℕ)) → List (List ℕ)
+texts = map (λ w. w.now)
+
 -- a call of f at k and the words ws may give r
 abbrev pub AsksBy : {F K T : Type 0} → Once F (K × (Bor (List (Bor (List ℕ))) × Unit {0})) (Result T Failure) → F → K → List (List ℕ) → Result T Failure → Type 0
-AsksBy g f k ws r = (words : Bor (List (Bor (List ℕ)))) × (map (λ w. w.now) words.now ≡ ws) × FnOnceReturns g f (k, (words, tt)) r
+AsksBy g f k ws r = (words : Bor (List (Bor (List ℕ)))) × (texts words.now ≡ ws) × FnOnceReturns g f (k, (words, tt)) r
 
 -- the answer to what a name asks of the words ws, or its refusal
 abbrev pub Told : {K T : Type 0} → (K → List (List ℕ) → Result T Failure → Type 0) → Result K Refusal → List (List ℕ) → Result T Failure → Type 0

@@ -1,5 +1,5 @@
-ghost use Rattle.std.specs.Prelude.{map, IfOk, string_bytes};
-ghost use Rattle.tasks.specs.Lines.{Words, AsksBy, AnswersByName, Responds};
+ghost use Rattle.std.specs.Prelude.{IfOk, string_bytes};
+ghost use Rattle.tasks.specs.Lines.{texts, Words, AsksBy, AnswersByName, Responds};
 
 use super::failure::Failure;
 use finders::refusals::Refusal;
@@ -9,7 +9,7 @@ use std::str::FromStr;
 
 // The words of a line.
 pub fn words<'a>(heap: Global, line: &'a str) -> Result<Vec<&'a str>, AllocError>
-    ensures are_the_words_of_the_line { IfOk result (λ v. Words line.now (map (λ w. w.now) v.items)) }
+    ensures are_the_words_of_the_line { IfOk result (λ v. Words line.now (texts v.items)) }
 {
     line.split_whitespace().collect(heap)
 }
@@ -20,7 +20,7 @@ where
     K: FromStr<Err = Refusal>,
     F: FnOnce(K, &[&str]) -> Result<T, Failure>,
     requires { F.IsAlwaysCallable ask }
-    ensures { AnswersByName K.from_str_gives (AsksBy F.FnOnce ask) (map (λ w. w.now) words.now) result }
+    ensures { AnswersByName K.from_str_gives (AsksBy F.FnOnce ask) (texts words.now) result }
 {
     let (name, rest) = words.split_first().ok_or(Refusal::Kind)?;
     ask(name.parse()?, rest)

@@ -1,4 +1,4 @@
-ghost use Rattle.std.specs.Prelude.{map};
+ghost use Rattle.tasks.specs.Lines.{texts};
 ghost use Rattle.tasks.specs.Numbers.{Parses};
 
 use super::failure::Failure;
@@ -11,7 +11,7 @@ pub fn numbers<T: FromStr<Err = ParseIntError> + Drop>(
     heap: Global,
     words: &[&str],
 ) -> Result<Vec<T>, Failure>
-    ensures reads_the_numbers { Parses T.from_str_gives (map (λ w. w.now) words.now) result }
+    ensures reads_the_numbers { Parses T.from_str_gives (texts words.now) result }
 {
     let mut numbers = Vec::new(heap);
     for word in words {

@@ -1,5 +1,6 @@
-use Rattle.std.proofs.Common.{ℕ, List, length, map, ◌∙◌, ap, ℤ, Err, Result, Bor}
+use Rattle.std.proofs.Common.{ℕ, List, length, ◌∙◌, ap, ℤ, Err, Result}
 use Rattle.std.proofs.lemmas.Result.{err_from_is_err_and}
+use Rattle.tasks.specs.Lines.{texts}
 use Rattle.codes.specs.Listed.{listed}
 use Rattle.tasks.specs.Numbers.{Reads, Signeds}
 use Rattle.tasks.specs.declared.failure.Failure.{Failure}
@@ -18,15 +19,15 @@ Gains_in gains vs = Reads Signeds gains (Finds_in vs)
 
 pub returns-in_err-list : goal.returns-in_err-list
 returns-in_err-list c =
-    let list = map (λ (w : Bor (List ℕ)). w.now) c.args.list.now in
-    let gains = map (λ (w : Bor (List ℕ)). w.now) c.args.gains.now in
+    let list = texts c.args.list.now in
+    let gains = texts c.args.gains.now in
     let p = err_from_is_err_and c.from_residual.result c.from_residual.ensures.1 in
     rw (p.1, p.2) (not_read unsigned list (Gains_in gains) c.in_err-list.field-0.0 c.in_err-list.ensures.reads_the_numbers)
 
 pub returns-in_err-gains : goal.returns-in_err-gains
 returns-in_err-gains c =
-    let list = map (λ (w : Bor (List ℕ)). w.now) c.args.list.now in
-    let gains = map (λ (w : Bor (List ℕ)). w.now) c.args.gains.now in
+    let list = texts c.args.list.now in
+    let gains = texts c.args.gains.now in
     let vs = c.in_ok-list.list.items in
     let e = c.in_err-gains.field-0.0 in
     let p = err_from_is_err_and c.from_residual-in_err-gains.result c.from_residual-in_err-gains.ensures.1 in
@@ -34,8 +35,8 @@ returns-in_err-gains c =
 
 pub returns : goal.returns
 returns c =
-    let list = map (λ (w : Bor (List ℕ)). w.now) c.args.list.now in
-    let gains = map (λ (w : Bor (List ℕ)). w.now) c.args.gains.now in
+    let list = texts c.args.list.now in
+    let gains = texts c.args.gains.now in
     let vs = c.deref.result.now in
     let found = c.told.ensures.tells_the_word_or_the_refusal ∙ ap told c.find_listed.ensures.answers_the_pick_and_its_correlation in
     unless_at_all c.told.result (PartsAnswer list gains)

@@ -1,5 +1,6 @@
-use Rattle.std.proofs.Common.{◌≡◌, ℕ, List, ◌∷◌, map, length, ℤ, Err, Result, rules, Bor}
+use Rattle.std.proofs.Common.{◌≡◌, ℕ, List, ◌∷◌, length, ℤ, Err, Result, rules}
 use Rattle.std.proofs.lemmas.Result.{err_from_is_err_and}
+use Rattle.tasks.specs.Lines.{texts}
 use Rattle.tasks.specs.declared.failure.Failure.{Failure}
 use Rattle.tasks.specs.Numbers.{Reads, Signeds}
 use Rattle.tasks.proofs.Unless.{unless_weaker}
@@ -17,7 +18,7 @@ pub returns-in_err-numbers : goal.returns-in_err-numbers
 returns-in_err-numbers c =
     let cut : c.args.words.now ≡ c.in_ok-step.step.now ∷ c.in_ok-step.rest.now = search rules in
     let word = c.in_ok-step.step.now.now in
-    let ws = map (λ (w : Bor (List ℕ)). w.now) c.in_ok-step.rest.now in
+    let ws = texts c.in_ok-step.rest.now in
     let q = c.in_ok-step-2.step in
     let l = c.args.lattice in
     let e = c.in_err-numbers.field-0.0 in
@@ -28,7 +29,7 @@ pub returns : goal.returns
 returns c =
     let cut : c.args.words.now ≡ c.in_ok-step.step.now ∷ c.in_ok-step.rest.now = search rules in
     let word = c.in_ok-step.step.now.now in
-    let ws = map (λ (w : Bor (List ℕ)). w.now) c.in_ok-step.rest.now in
+    let ws = texts c.in_ok-step.rest.now in
     let q = c.in_ok-step-2.step in
     let l = c.args.lattice in
     rw cut (unless_weaker c.nearest.result (Finds_at l q c.deref.result.now) (Asks l (word ∷ ws)) (λ r f. read_word unsigned word _ q r c.in_ok-step-2.ensures.value (read_words signed ws (Finds_at l q) _ r (rw c.deref.ensures.value c.in_ok-numbers.ensures.reads_the_numbers) f)) c.nearest.ensures)
