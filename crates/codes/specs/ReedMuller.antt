@@ -1,5 +1,6 @@
 -- The first-order Reed-Muller code of 2^m cells: the rows of the Hadamard matrix, read as words, and their complements.
-use Rattle.std.specs.Prelude.{◌≡◌, ℕ, zero, suc, ◌%◌, ◌^◌, ◌<◌, Bool, cond, ◌&&◌, ◌⊎◌, List, [], ◌∷◌, map, ℤ, pos, bit_and, count_ones, int_lt, nat_le, unsigned_abs}
+use Rattle.std.specs.Prelude.{◌≡◌, ℕ, ◌%◌, ◌^◌, ◌<◌, Bool, cond, ◌&&◌, ◌⊎◌, List, map, ℤ, pos, bit_and, count_ones, int_lt, nat_le, unsigned_abs}
+use Rattle.std.specs.List.{range_with_len}
 use Rattle.finders.specs.Choice.{first_best, no_smaller}
 use Rattle.finders.specs.Meanings.{Meaning}
 use Rattle.finders.specs.WordFinders.{WordFit}
@@ -7,18 +8,13 @@ use Rattle.finders.specs.Words.{correlation}
 use Rattle.codes.specs.Codes.{code}
 use Rattle.codes.specs.Digits.{word, reversed}
 
--- n numbers from k on
-abbrev pub from : ℕ → ℕ → List ℕ
-from k zero = []
-from k (suc n) = k ∷ from (suc k) n
-
 -- the parity of the ones in (a AND i)
 abbrev pub parity : ℕ → ℕ → ℕ
 parity a i = count_ones (bit_and a i) % 2
 
 -- row a of the matrix: at cell i + 1, the parity of a and i
 abbrev pub row : ℕ → ℕ → List ℕ
-row m a = map (parity a) (from 0 (2 ^ m))
+row m a = map (parity a) (range_with_len 0 (2 ^ m))
 
 -- word a
 abbrev pub row_word : ℕ → ℕ → ℕ
@@ -30,7 +26,7 @@ complement m a = word (map reversed (row m a))
 
 -- the correlation of each word
 abbrev pub spectrum : ℕ → List ℤ → List ℤ
-spectrum m gs = map (λ a. correlation (row_word m a) gs) (from 0 (2 ^ m))
+spectrum m gs = map (λ a. correlation (row_word m a) gs) (range_with_len 0 (2 ^ m))
 
 -- the word whose correlation is largest in size, the first of equals
 abbrev pub strongest : ℕ → List ℤ → ℕ

@@ -3,6 +3,7 @@ use Rattle.std.specs.Prelude.{◌≡◌, ℕ, ◌^◌, ◌<◌, ◌≤◌, true,
 use Rattle.std.proofs.Common.{sym, ap, ap₂, ◌∙◌, inl, inr, arith, pow_mono, pow_pos}
 use Rattle.std.proofs.ByRecursion.{All-get_or}
 use Rattle.std.proofs.lemmas.List.{length-map, get_or-map}
+use Rattle.std.proofs.lemmas.List.FromFn.{get_or-map-range_with_len}
 use Rattle.std.proofs.lemmas.Int.{ints}
 use Rattle.std.proofs.lemmas.Bool.{leb-true, and_parts, cond_both}
 use Rattle.finders.specs.declared.words.WordShape.{WordShape}
@@ -13,10 +14,10 @@ use Rattle.finders.proofs.Firsts.{first_best_is}
 use Rattle.finders.proofs.Scores.{no_smaller_total, no_smaller_chain}
 use Rattle.codes.specs.Codes.{shape}
 use Rattle.codes.specs.Digits.{reversed}
-use Rattle.codes.specs.ReedMuller.{from, row, row_word, complement, spectrum, strongest, signed_pick, rm_pick, picked, rm_sized, Codeword, reed_muller}
+use Rattle.codes.specs.ReedMuller.{row, row_word, complement, spectrum, strongest, signed_pick, rm_pick, picked, rm_sized, Codeword, reed_muller}
 use Rattle.codes.specs.CodeLaws.{code_lawful}
 use Rattle.codes.specs.DigitLaws.{word_below}
-use Rattle.codes.specs.RowLaws.{row_digits, length_row, reversed_digits, length_from, get_or_from}
+use Rattle.codes.specs.RowLaws.{row_digits, length_row, reversed_digits}
 use Rattle.codes.specs.SpectrumLaws.{correlation_reversed, length_spectrum}
 
 pub row_below : (m a : ℕ) → row_word m a < 2 ^ (2 ^ m)
@@ -30,9 +31,7 @@ codeword_below m w (a, h, inl e) = rw e (row_below m a)
 codeword_below m w (a, h, inr e) = rw e (complement_below m a)
 
 pub spectrum_at : (m a : ℕ) (gs : List ℤ) → a < 2 ^ m → slice_index_or (spectrum m gs) a (pos 0) ≡ correlation (row_word m a) gs
-spectrum_at m a gs h =
-    get_or-map (λ b. correlation (row_word m b) gs) (from 0 (2 ^ m)) a 0 (pos 0) (omega (arith, length_from 0 (2 ^ m)))
-    ∙ ap (λ (b : ℕ). correlation (row_word m b) gs) (omega (arith, get_or_from 0 (2 ^ m) a h))
+spectrum_at m a gs h = get_or-map-range_with_len (λ b. correlation (row_word m b) gs) 0 (2 ^ m) a a (pos 0) h (omega arith)
 
 -- ---- the strongest word
 

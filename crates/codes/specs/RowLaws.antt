@@ -1,51 +1,41 @@
 -- The rows of the Hadamard transform: a row of twice the cells is a row and the same again, or a row and the same reversed.
-use Rattle.std.specs.Prelude.{◌≡◌, ℕ, zero, suc, ◌+◌, ◌-◌, ◌*◌, ◌^◌, ◌<◌, List, [], ◌∷◌, ◌++◌, map, length, bit_and, count_ones, slice_index, refl}
-use Rattle.std.proofs.Common.{sym, ap, ap₂, ◌∙◌, mod-lt, arith}
+use Rattle.std.specs.Prelude.{◌≡◌, ℕ, suc, ◌+◌, ◌-◌, ◌*◌, ◌^◌, ◌<◌, List, [], ◌∷◌, ◌++◌, map, length, bit_and, count_ones, slice_index, slice_index_or, refl}
+use Rattle.std.proofs.Common.{sym, ap, ap₂, ◌∙◌, inl, inr, mod-lt, arith}
 use Rattle.std.proofs.Math.Nat.{pow-succ'}
 use Rattle.std.proofs.lemmas.Nat.{and_block, ones_cat}
 use Rattle.std.specs.Int.Bits.{and_lt}
 use Rattle.std.specs.Int.Count.{ones-ones}
-use Rattle.std.specs.List.{AllByRecursion}
-use Rattle.std.proofs.lemmas.List.{length-map, get_or-map, map-append}
+use Rattle.std.specs.List.{AllByRecursion, range_with_len}
+use Rattle.std.proofs.lemmas.List.{length-map, length-append, get_or-map, get_or_append_left, get_or-append_right}
+use Rattle.std.proofs.lemmas.List.FromFn.{length-map-range_with_len, get_or-map-range_with_len, fill_by_all}
+use Rattle.std.proofs.lemmas.Bool.{cases_lt}
 use Rattle.finders.specs.Words.{digit}
 use Rattle.codes.specs.Digits.{word, reversed}
-use Rattle.codes.specs.ReedMuller.{from, parity, row, row_word, complement}
+use Rattle.codes.specs.ReedMuller.{parity, row, row_word, complement}
 use Rattle.codes.specs.DigitLaws.{Digit, reversed_digit, map_digits, word_digit}
 
--- ---- numbers in a row
+-- ---- functions of the numbers in a row
 
-pub length_from : (k n : ℕ) → length (from k n) ≡ n
-length_from k zero = refl
-length_from k (suc n) = ap suc (length_from (suc k) n)
+-- the first half, and the second as a function of the first
+pub map_range_halves : {X : Type 0} (d : X) (f g h : ℕ → X) (p : ℕ) → ((i : ℕ) → i < p → f i ≡ g i) → ((i : ℕ) → i < p → f (p + i) ≡ h i) → map f (range_with_len 0 (p + p)) ≡ map g (range_with_len 0 p) ++ map h (range_with_len 0 p)
+map_range_halves {X} d f g h p a b = sym (fill_by_all f (xs ++ ys) (p + p) d (length-append xs ys ∙ ap₂ ◌+◌ wide (length-map-range_with_len h 0 p)) at)
+  where
+    xs : List X
+    xs = map g (range_with_len 0 p)
 
-pub get_or_from : (k n i : ℕ) → i < n → slice_index (from k n) i ≡ k + i
-get_or_from k zero i h = absurd (omega arith)
-get_or_from k (suc n) zero h = omega arith
-get_or_from k (suc n) (suc i) h = omega (arith, get_or_from (suc k) n i (omega arith))
+    ys : List X
+    ys = map h (range_with_len 0 p)
 
-pub from_split : (k p q : ℕ) → from k (p + q) ≡ from k p ++ from (k + p) q
-from_split k zero q = let a : 0 + q ≡ q = omega arith in let b : k + 0 ≡ k = omega arith in rw (a, b)
-from_split k (suc p) q =
-    let a : suc p + q ≡ suc (p + q) = omega arith in
-    let b : suc k + p ≡ k + suc p = omega arith in
-    rw (a, from_split (suc k) p q, b)
+    wide : length xs ≡ p
+    wide = length-map-range_with_len g 0 p
 
-module _ {X : Type 0} where
-  -- two functions that agree on the numbers
-  pub map_from : (f g : ℕ → X) (k n : ℕ) → ((i : ℕ) → i < k + n → f i ≡ g i) → map f (from k n) ≡ map g (from k n)
-  map_from f g k zero h = refl
-  map_from f g k (suc n) h = ap₂ (λ (x : X) (xs : List X). x ∷ xs) (h k (omega arith)) (map_from f g (suc k) n (λ i l. h i (omega arith)))
-
-  map_from_shift : (f : ℕ → X) (p k n : ℕ) → map f (from (p + k) n) ≡ map (λ i. f (p + i)) (from k n)
-  map_from_shift f p k zero = refl
-  map_from_shift f p k (suc n) = let e : suc (p + k) ≡ p + suc k = omega arith in rw (e, map_from_shift f p (suc k) n)
-
-  -- the first half, and the second as a function of the first
-  pub map_from_halves : (f g h : ℕ → X) (p : ℕ) → ((i : ℕ) → i < p → f i ≡ g i) → ((i : ℕ) → i < p → f (p + i) ≡ h i) → map f (from 0 (p + p)) ≡ map g (from 0 p) ++ map h (from 0 p)
-  map_from_halves f g h p a b =
-      let z : 0 + p ≡ p + 0 = omega arith in
-      ap (map f) (from_split 0 p p ∙ ap (λ (k : ℕ). from 0 p ++ from k p) z) ∙ map-append f (from 0 p) (from (p + 0) p)
-      ∙ ap₂ ◌++◌ (map_from f g 0 p (λ i l. a i (omega arith))) (map_from_shift f p 0 p ∙ map_from (λ i. f (p + i)) h 0 p (λ i l. b i (omega arith)))
+    at : (k : ℕ) → k < p + p → slice_index_or (xs ++ ys) k d ≡ f k
+    at k l = elim (cases_lt k p) [
+      | inl k_low ↦ get_or_append_left xs ys d k (omega (arith, wide)) ∙ get_or-map-range_with_len g 0 p k k d k_low (omega arith) ∙ sym (a k k_low)
+      | inr k_high ↦
+          let e : p + (k - p) ≡ k = omega arith in
+          get_or-append_right xs ys p k d wide k_high ∙ get_or-map-range_with_len h 0 p (k - p) (k - p) d (omega arith) (omega arith) ∙ sym (b (k - p) (omega arith)) ∙ ap f e
+    ]
 
 -- ---- the digits
 
@@ -53,10 +43,10 @@ parity_digit : (a i : ℕ) → Digit (parity a i)
 parity_digit a i = mod-lt (count_ones (bit_and a i)) (omega arith)
 
 pub row_digits : (m a : ℕ) → AllByRecursion Digit (row m a)
-row_digits m a = map_digits (parity a) (parity_digit a) (from 0 (2 ^ m))
+row_digits m a = map_digits (parity a) (parity_digit a) (range_with_len 0 (2 ^ m))
 
 pub length_row : (m a : ℕ) → length (row m a) ≡ 2 ^ m
-length_row m a = length-map (from 0 (2 ^ m)) (parity a) ∙ length_from 0 (2 ^ m)
+length_row m a = length-map-range_with_len (parity a) 0 (2 ^ m)
 
 -- ---- all digits reversed
 
@@ -109,7 +99,7 @@ pub double : (m : ℕ) → 2 ^ suc m ≡ 2 ^ m + 2 ^ m
 double m = omega (arith, pow-succ' 2 m)
 
 pub row_low : (m a : ℕ) → a < 2 ^ m → row (suc m) a ≡ row m a ++ row m a
-row_low m a h = ap (λ (n : ℕ). map (parity a) (from 0 n)) (double m) ∙ map_from_halves (parity a) (parity a) (parity a) (2 ^ m) (λ i k. refl) (λ i k. low_high m a i h k)
+row_low m a h = ap (λ (n : ℕ). map (parity a) (range_with_len 0 n)) (double m) ∙ map_range_halves 0 (parity a) (parity a) (parity a) (2 ^ m) (λ i k. refl) (λ i k. low_high m a i h k)
 
 map_map : (f g : ℕ → ℕ) (xs : List ℕ) → map (λ i. f (g i)) xs ≡ map f (map g xs)
 map_map f g [] = refl
@@ -117,16 +107,14 @@ map_map f g (x ∷ xs) = ap (λ (v : List ℕ). f (g x) ∷ v) (map_map f g xs)
 
 pub row_high : (m a : ℕ) → a < 2 ^ m → row (suc m) (2 ^ m + a) ≡ row m a ++ map reversed (row m a)
 row_high m a h =
-    ap (λ (n : ℕ). map (parity (2 ^ m + a)) (from 0 n)) (double m)
-    ∙ map_from_halves (parity (2 ^ m + a)) (parity a) (λ i. reversed (parity a i)) (2 ^ m) (λ i k. high_low m a i h k) (λ i k. high_high m a i h k)
-    ∙ ap (λ (v : List ℕ). row m a ++ v) (map_map reversed (parity a) (from 0 (2 ^ m)))
+    ap (λ (n : ℕ). map (parity (2 ^ m + a)) (range_with_len 0 n)) (double m)
+    ∙ map_range_halves 0 (parity (2 ^ m + a)) (parity a) (λ i. reversed (parity a i)) (2 ^ m) (λ i k. high_low m a i h k) (λ i k. high_high m a i h k)
+    ∙ ap (λ (v : List ℕ). row m a ++ v) (map_map reversed (parity a) (range_with_len 0 (2 ^ m)))
 
 -- ---- each digit of a row's word, and of its complement
 
 row_at : (m a i : ℕ) → i < 2 ^ m → slice_index (row m a) i ≡ parity a i
-row_at m a i h =
-    get_or-map (parity a) (from 0 (2 ^ m)) i 0 0 (omega (arith, length_from 0 (2 ^ m)))
-    ∙ ap (parity a) (omega (arith, get_or_from 0 (2 ^ m) i h))
+row_at m a i h = get_or-map-range_with_len (parity a) 0 (2 ^ m) i i 0 h (omega arith)
 
 pub row_word_digit : (m a i : ℕ) → i < 2 ^ m → digit (row_word m a) i ≡ parity a i
 row_word_digit m a i h = word_digit (row m a) i (row_digits m a) (omega (arith, length_row m a)) ∙ row_at m a i h

@@ -1,9 +1,9 @@
 -- The correlations of all rows: twice the cells give the sums and the differences of the halves.
-use Rattle.std.specs.Prelude.{◌≡◌, ℕ, zero, suc, ◌+◌, ◌^◌, ◌<◌, ◌≤◌, true, List, [], ◌∷◌, ◌++◌, map, length, ℤ, ◌+ℤ◌, ◌-ℤ◌, neg_ℤ, unsigned_abs, refl}
+use Rattle.std.specs.Prelude.{◌≡◌, ℕ, zero, suc, ◌+◌, ◌^◌, ◌<◌, ◌≤◌, true, List, [], ◌∷◌, ◌++◌, map, length, ℤ, pos, ◌+ℤ◌, ◌-ℤ◌, neg_ℤ, unsigned_abs, refl}
 use Rattle.std.proofs.Common.{sym, ap, ap₂, ◌∙◌, arith, pow_mono}
 use Rattle.std.proofs.Math.IntN.{+ℤ_idl, +ℤ_idr}
-use Rattle.std.specs.List.{AllByRecursion}
-use Rattle.std.proofs.lemmas.List.{length-map}
+use Rattle.std.specs.List.{AllByRecursion, range_with_len}
+use Rattle.std.proofs.lemmas.List.FromFn.{length-map-range_with_len}
 use Rattle.std.proofs.lemmas.Int.{ints}
 use Rattle.std.proofs.lemmas.Bool.{le-leb}
 use Rattle.finders.specs.Points.{within}
@@ -12,9 +12,9 @@ use Rattle.finders.proofs.Correlation.{correlation_size}
 use Rattle.codes.specs.Digits.{word, reversed}
 use Rattle.integers.specs.Sums.{zip_with}
 use Rattle.codes.specs.Butterflies.{crossed}
-use Rattle.codes.specs.ReedMuller.{from, row, row_word, spectrum}
+use Rattle.codes.specs.ReedMuller.{row, row_word, spectrum}
 use Rattle.codes.specs.DigitLaws.{Digit, reversed_digit, correlation_cons}
-use Rattle.codes.specs.RowLaws.{length_from, map_from_halves, row_digits, length_row, double, row_one_cell, row_low, row_high}
+use Rattle.codes.specs.RowLaws.{map_range_halves, row_digits, length_row, double, row_one_cell, row_low, row_high}
 
 -- ---- correlations by digits
 
@@ -41,7 +41,7 @@ correlation_reversed (d ∷ ds) (g ∷ gs) h e =
 -- ---- the spectrum
 
 pub length_spectrum : (m : ℕ) (gs : List ℤ) → length (spectrum m gs) ≡ 2 ^ m
-length_spectrum m gs = length-map (from 0 (2 ^ m)) (λ a. correlation (row_word m a) gs) ∙ length_from 0 (2 ^ m)
+length_spectrum m gs = length-map-range_with_len (λ a. correlation (row_word m a) gs) 0 (2 ^ m)
 
 zip_with_map : (h : ℤ → ℤ → ℤ) (f g : ℕ → ℤ) (xs : List ℕ) → zip_with h (map f xs) (map g xs) ≡ map (λ a. h (f a) (g a)) xs
 zip_with_map h f g [] = refl
@@ -50,9 +50,9 @@ zip_with_map h f g (x ∷ xs) = ap (λ (v : List ℤ). h (f x) (g x) ∷ v) (zip
 pub spectrum_halves : (m : ℕ) (xs ys : List ℤ) → length xs ≡ 2 ^ m → length ys ≡ 2 ^ m →
     spectrum (suc m) (xs ++ ys) ≡ crossed (spectrum m xs) (spectrum m ys)
 spectrum_halves m xs ys e f =
-    ap (λ (n : ℕ). map (λ a. correlation (row_word (suc m) a) (xs ++ ys)) (from 0 n)) (double m)
-    ∙ map_from_halves (λ a. correlation (row_word (suc m) a) (xs ++ ys)) (λ a. correlation (row_word m a) xs +ℤ correlation (row_word m a) ys) (λ a. correlation (row_word m a) xs -ℤ correlation (row_word m a) ys) (2 ^ m) low high
-    ∙ sym (ap₂ ◌++◌ (zip_with_map (λ x y. x +ℤ y) (λ a. correlation (row_word m a) xs) (λ a. correlation (row_word m a) ys) (from 0 (2 ^ m))) (zip_with_map (λ x y. x -ℤ y) (λ a. correlation (row_word m a) xs) (λ a. correlation (row_word m a) ys) (from 0 (2 ^ m))))
+    ap (λ (n : ℕ). map (λ a. correlation (row_word (suc m) a) (xs ++ ys)) (range_with_len 0 n)) (double m)
+    ∙ map_range_halves (pos 0) (λ a. correlation (row_word (suc m) a) (xs ++ ys)) (λ a. correlation (row_word m a) xs +ℤ correlation (row_word m a) ys) (λ a. correlation (row_word m a) xs -ℤ correlation (row_word m a) ys) (2 ^ m) low high
+    ∙ sym (ap₂ ◌++◌ (zip_with_map (λ x y. x +ℤ y) (λ a. correlation (row_word m a) xs) (λ a. correlation (row_word m a) ys) (range_with_len 0 (2 ^ m))) (zip_with_map (λ x y. x -ℤ y) (λ a. correlation (row_word m a) xs) (λ a. correlation (row_word m a) ys) (range_with_len 0 (2 ^ m))))
   where
     wide : (a : ℕ) (zs : List ℤ) → length zs ≡ 2 ^ m → length (row m a) ≡ length zs
     wide a zs g = length_row m a ∙ sym g
@@ -73,7 +73,7 @@ spectrum_one (g ∷ []) e = ap (λ (ds : List ℕ). correlation (word ds) (g ∷
 spectrum_one (g ∷ h ∷ gs) e = absurd (omega arith)
 
 pub spectrum_small : (m : ℕ) (gs : List ℤ) → m ≤ 5 → length gs ≡ 2 ^ m → within (2 ^ 30) gs ≡ true → within (2 ^ 35) (spectrum m gs) ≡ true
-spectrum_small m gs k e t = all (from 0 (2 ^ m))
+spectrum_small m gs k e t = all (range_with_len 0 (2 ^ m))
   where
     each : (a : ℕ) → unsigned_abs (correlation (row_word m a) gs) ≤ 2 ^ 35
     each a =
