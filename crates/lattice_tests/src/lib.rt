@@ -3,7 +3,7 @@
 
 #[cfg(test)]
 mod tests {
-    use finders::choice::{Greatest, Least, first_best};
+    use finders::choice::{FirstBest, Greatest, Least, first_best};
     use finders::points::{PointFinder, PointTester};
     use finders::refusals::Refusal;
     use lattices::lattice_d::LatticeD;
@@ -105,14 +105,32 @@ mod tests {
 
     #[test]
     fn the_first_of_the_best_is_held(rt: HostRuntime) -> Result<(), Fail> {
+        let mut least = FirstBest::none();
+        let mut greatest = FirstBest::none();
+        for (i, score) in [0u64, 3, 0, 3].iter().enumerate() {
+            least.offer(i, Least(*score));
+            greatest.offer(i, Greatest(*score as i64));
+        }
+        let Some((first_least, Least(0))) = least.held else {
+            return Err(Fail::new("the least is not held"));
+        };
+        let Some((first_greatest, Greatest(3))) = greatest.held else {
+            return Err(Fail::new("the greatest is not held"));
+        };
+        assert_eq!(rt; (first_least, first_greatest), (0, 1));
+        Ok(())
+    }
+
+    #[test]
+    fn the_first_of_the_best_scores_is_found(rt: HostRuntime) -> Result<(), Fail> {
         let scores = [0u64, 3, 0, 3];
         let least = first_best(scores.iter().map(|score| Least(*score)));
         let greatest = first_best(scores.iter().map(|score| Greatest(*score as i64)));
         let Some((first_least, Least(0))) = least else {
-            return Err(Fail::new("the least is not held"));
+            return Err(Fail::new("the least is not found"));
         };
         let Some((first_greatest, Greatest(3))) = greatest else {
-            return Err(Fail::new("the greatest is not held"));
+            return Err(Fail::new("the greatest is not found"));
         };
         assert_eq!(rt; (first_least, first_greatest), (0, 1));
         Ok(())
