@@ -124,8 +124,8 @@ mod tests {
     #[test]
     fn the_first_of_the_best_scores_is_found(rt: HostRuntime) -> Result<(), Fail> {
         let scores = [0u64, 3, 0, 3];
-        let least = first_best(scores.iter().map(|score| Least(*score)));
-        let greatest = first_best(scores.iter().map(|score| Greatest(*score as i64)));
+        let least = first_best(scores.iter().map(|&score| Least(score)));
+        let greatest = first_best(scores.iter().map(|&score| Greatest(score as i64)));
         let Some((first_least, Least(0))) = least else {
             return Err(Fail::new("the least is not found"));
         };

@@ -1,4 +1,4 @@
--- One cell, as the machine rounds it: values of 32 bits.
+-- One cell as the machine rounds it, in values of 32 bits, and one cell more in the loop.
 use Rattle.std.proofs.Common.{◌≡◌, ℕ, ◌+◌, ◌*◌, ◌^◌, ◌<◌, ◌≤◌, max, List, [], ◌∷◌, ◌++◌, length, get_or, take, set, ℤ, pos, nat_abs, sym, ap, ap₂, ◌∙◌, arith, w32, SFits, to_z, of_z}
 use Rattle.std.proofs.lemmas.List.{take_more, take_more_set, length-take, map_more}
 use Rattle.std.proofs.lemmas.Int.{to_z-of_z}

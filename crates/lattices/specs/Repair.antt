@@ -1,4 +1,5 @@
--- A cell of the rounded point goes the other way: what that does to the point's sum and to its distance.
+-- The worst cell, points of the other parity, and a cell of the rounded point that goes the other way: what each does to the
+-- distance.
 use Rattle.std.specs.Prelude.{◌≡◌, ℕ, zero, suc, ◌+◌, ◌-◌, ◌*◌, ◌%◌, ◌^◌, ◌<◌, ◌≤◌, true, List, [], ◌∷◌, map, length, ℤ, pos, ◌+ℤ◌, ◌-ℤ◌, ◌≢◌, slice_index_or, slice_set, unsigned_abs, refl}
 use Rattle.std.proofs.Common.{◌∙◌, mul-le-mul, mul-le-mul_left, add-mul, mul-add, mul_comm, arith, length-set}
 use Rattle.std.specs.List.{AllByRecursion}

@@ -32,7 +32,9 @@ impl LatticeD {
 fn has_even_sum(point: &[i32]) -> bool
     ensures { result ≡ (parity point.now == 0) }
 {
-    point.iter().filter(|number| **number % 2 != 0).count() % 2 == 0
+    point
+        .iter()
+        .fold(true, |even, &number| even == (number % 2 == 0))
 }
 
 impl Group<'_> {
@@ -41,8 +43,8 @@ impl Group<'_> {
         requires rounded { point.now ≡ rounded self.now.step self.now.readings.now }
         ensures { MatchOption result (self.now.readings.now ≡ []) (λ i. (i ≡ worst_cell self.now.step self.now.readings.now) × (i < length self.now.readings.now)) }
     {
-        let sizes = self.readings.iter().zip(point).map(|(reading, number)| {
-            Greatest(residue_of(*reading, self.step, *number).abs())
+        let sizes = self.readings.iter().zip(point).map(|(&reading, &number)| {
+            Greatest(residue_of(reading, self.step, number).abs())
         });
         first_best(sizes).map(|(i, _)| i)
     }
