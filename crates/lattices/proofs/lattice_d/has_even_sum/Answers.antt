@@ -1,4 +1,4 @@
-use Rattle.std.proofs.Common.{◌≡◌, ℕ, ◌+◌, ◌%◌, ◌<◌, Bool, true, nat_eq, List, [], ◌∷◌, ◌++◌, ℤ, pos, nat_abs, refl, ◌∙◌, w32, SFits, to_z, of_z, arith, rules}
+use Rattle.std.proofs.Common.{◌≡◌, ℕ, ◌+◌, ◌%◌, ◌<◌, Bool, nat_eq, List, [], ◌∷◌, ◌++◌, ℤ, pos, nat_abs, ◌∙◌, w32, SFits, to_z, of_z, arith, rules}
 use lib.Signed.{rem_z}
 use Rattle.std.specs.Bool.{beq}
 use Rattle.std.proofs.lemmas.Fn.{fold_over, fronts}
@@ -29,4 +29,4 @@ returns c =
     let more : b ≡ beq a (even x.now) = search rules in
     let fits : SFits w32 x.now = search rules in
     (more ∙ even_more xs x.now a fits e, search rules))
-    c.iter.result c.args.point.now true c.fold.result (YieldsList-from_slice c.args.point.now cc).runs refl c.fold.ensures.ran
+    c.iter.result c.args.point.now _ c.fold.result (YieldsList-from_slice c.args.point.now cc).runs (search rules) c.fold.ensures.ran
