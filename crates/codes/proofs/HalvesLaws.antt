@@ -91,6 +91,9 @@ row_joined M m n a low high few whole half stands is_low is_high = rw (half, up)
     go (inl p) = join ds (row_digits m (a % 2 ^ m)) wide (p.1 ∙ low_is) (row_doubled m a p.0)
     go (inr p) = join (map reversed ds) (reversed_digits ds) (length-map ds reversed ∙ wide) (p.1 ∙ ap (λ (v : ℕ). 2 ^ (2 ^ m) - 1 - v) low_is ∙ sym (reversed_word ds (2 ^ m) (row_digits m (a % 2 ^ m)) wide)) (row_crossed m a p.0 (rw up at stands))
 
+-- what the joining rests on
+pub ruleset joins = (half_few, row_below, row_joined)
+
 -- ---- the digits of a word or a complement, from their halves
 
 abbrev Row : ℕ → List ℕ → Type 0

@@ -12,6 +12,7 @@ use Rattle.std.proofs.lemmas.List.{length-map, get_or-map}
 use Rattle.std.proofs.lemmas.Int.{ints}
 use Rattle.std.proofs.lemmas.Bool.{leb-true, eqb-true, eqb-false, cond_both, cases_eq}
 use Rattle.finders.specs.Choice.{IsFirst, no_larger}
+use Rattle.finders.specs.Points.{within}
 use Rattle.finders.specs.Sizes.{in_range}
 use Rattle.finders.specs.Words.{correlation, signed}
 use Rattle.finders.specs.WordFinders.{Lawful}
@@ -20,7 +21,7 @@ use Rattle.finders.proofs.Scores.{no_larger_total, no_larger_chain}
 use Rattle.codes.specs.Digits.{word, reversed, reversed_at}
 use Rattle.codes.specs.Universe.{sign, signs}
 use Rattle.codes.specs.EvenWeight.{even, weakest, repaired, even_pick, even_weight}
-use Rattle.finders.proofs.Within.{range}
+use Rattle.finders.proofs.Within.{range, within_at}
 use Rattle.codes.specs.CodeLaws.{code_lawful}
 use Rattle.codes.specs.DigitLaws.{Digit, reversed_digit, word_below, correlation_cons, ones_cons, first_digit, other_digits}
 use Rattle.codes.specs.SignLaws.{total, sign_digit, signs_digits, signs_below, signed_most, signed_own, correlation_most, correlation_signs}
@@ -131,6 +132,10 @@ even_weight_lawful n = code_lawful n (λ w. (w < 2 ^ n) × (count_ones w % 2 ≡
     (λ gs some e. (rw e at (pick_below gs some), pick_is_even gs some))
     (λ gs some e w h. none_is_better gs some w (rw e h.0) h.1)
     (in_range n) (range n)
+
+-- how large the weakest gain is, where all are within a limit
+pub weakest_small : (gs : List ℤ) (i n : ℕ) → within (2 ^ 30) gs ≡ true → i < length gs → n ≡ unsigned_abs (slice_index_or gs i (pos 0)) → n ≤ 2 ^ 30
+weakest_small gs i n small here e = rw e (within_at (2 ^ 30) gs i small here)
 
 -- ---- the repair as the machine works it out: i is the weakest cell, n its gain's size, and w the word of signs, whose correlation is c
 

@@ -1,5 +1,5 @@
 -- The laws of the Reed-Muller code.
-use Rattle.std.specs.Prelude.{◌≡◌, ℕ, ◌^◌, ◌<◌, ◌≤◌, true, cond, List, map, length, ℤ, pos, neg_ℤ, ◌≤ℤ◌, Ok, int_lt, nat_le, slice_index, slice_index_or, unsigned_abs, refl}
+use Rattle.std.specs.Prelude.{◌≡◌, ℕ, ◌-◌, ◌^◌, ◌<◌, ◌≤◌, true, cond, List, map, length, ℤ, pos, neg_ℤ, ◌≤ℤ◌, Ok, int_lt, nat_le, slice_index, slice_index_or, unsigned_abs, refl}
 use Rattle.std.proofs.Common.{sym, ap, ap₂, ◌∙◌, inl, inr, arith, pow_mono, pow_pos}
 use Rattle.std.proofs.ByRecursion.{All-get_or}
 use Rattle.std.proofs.lemmas.List.{length-map, get_or-map}
@@ -17,7 +17,7 @@ use Rattle.codes.specs.Digits.{reversed}
 use Rattle.codes.specs.ReedMuller.{row, row_word, complement, spectrum, strongest, signed_pick, rm_pick, picked, rm_sized, Codeword, reed_muller}
 use Rattle.codes.specs.CodeLaws.{code_lawful}
 use Rattle.codes.specs.DigitLaws.{word_below}
-use Rattle.codes.specs.RowLaws.{row_digits, length_row, reversed_digits}
+use Rattle.codes.specs.RowLaws.{row_digits, length_row, reversed_digits, reversed_word}
 use Rattle.codes.specs.SpectrumLaws.{correlation_reversed, length_spectrum}
 
 pub row_below : (m a : ℕ) → row_word m a < 2 ^ (2 ^ m)
@@ -25,6 +25,9 @@ row_below m a = rw (length_row m a) at (word_below (row m a) (row_digits m a))
 
 complement_below : (m a : ℕ) → complement m a < 2 ^ (2 ^ m)
 complement_below m a = rw (length-map (row m a) reversed, length_row m a) at (word_below (map reversed (row m a)) (reversed_digits (row m a)))
+
+pub complement_is : (m a : ℕ) → complement m a ≡ 2 ^ (2 ^ m) - 1 - row_word m a
+complement_is m a = reversed_word (row m a) (2 ^ m) (row_digits m a) (length_row m a)
 
 pub codeword_below : (m w : ℕ) → Codeword m w → w < 2 ^ (2 ^ m)
 codeword_below m w (a, h, inl e) = rw e (row_below m a)

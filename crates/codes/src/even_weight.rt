@@ -45,6 +45,7 @@ fn weakest(gains: &[i32]) -> Option<(usize, Least)>
 }
 
 // The word of signs, where it has an odd number of ones with its weakest cell reversed; and the correlation that this leaves.
+#[tactic(auto, using(crate::specs::EvenWeightLaws::weakest_small, crate::specs::SignLaws::correlation_signs))]
 fn even_signs(gains: Gains) -> (u32, i64)
     ensures { result ≡ (even_pick gains.entry.all.now, correlation_of (even_pick gains.entry.all.now) gains.entry.all.now) }
 {

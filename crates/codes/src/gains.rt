@@ -40,7 +40,7 @@ impl<'a> Gains<'a> {
             .all
             .iter()
             .rev()
-            .fold(0, |word, gain| word << 1 | u32::from(*gain < 0));
+            .fold(0, |word, gain| (word << 1) | u32::from(*gain < 0));
         let sizes: u64 = self
             .all
             .iter()

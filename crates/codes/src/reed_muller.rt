@@ -37,6 +37,7 @@ impl WordFinder for ReedMuller {
         Ok(Order::new(self.m)?.shape())
     }
 
+    #[tactic(auto, using(crate::specs::ReedMullerLaws::answers_picked))]
     fn find(&self, gains: &[i32]) -> Result<(u32, i64), Refusal> {
         let order = Order::new(self.m)?;
         order.shape().check_find(gains)?;

@@ -21,6 +21,7 @@ fn strongest(spectrum: &[i64]) -> Option<(usize, Greatest)>
 
 impl Order {
     // Word a, or its complement.
+    #[tactic(auto, using(crate::specs::ReedMullerLaws::row_below, crate::specs::ReedMullerLaws::complement_is))]
     fn signed_word(self, a: usize, is_negative: bool) -> u32
         requires one_of_them { a < 2 ^ self.m }
         ensures { result ≡ (if is_negative then complement self.m a else row_word self.m a) }
@@ -34,6 +35,7 @@ impl Order {
     }
 
     // The pick for the gains of a table, and its correlation. The table is left transformed.
+    #[tactic(auto, using(crate::specs::SpectrumLaws::spectrum_small, crate::specs::ReedMullerLaws::picked_is))]
     fn pick(self, table: &mut [i64]) -> (u32, i64)
         requires as_wide { length table.old ≡ 2 ^ self.m }
         requires small { within (2 ^ 30) table.old ≡ true }
@@ -50,6 +52,7 @@ impl Order {
         ensures { result ≡ picked self.m gains.entry.all.now }
     {
         let mut table = gains.table();
-        self.pick(&mut table[..self.cells()])
+        let cells = gains.all.len();
+        self.pick(&mut table[..cells])
     }
 }

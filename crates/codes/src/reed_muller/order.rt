@@ -9,7 +9,7 @@ use finders::words::{MOST_GAIN, WordShape};
 // The largest m of 2^m cells.
 const MOST_M: u32 = 5;
 
-// The m of a code of 2^m cells, of which a word has room for the digits.
+// The m of a code whose 2^m cells a word has room for.
 #[derive(Clone, Copy)]
 pub(super) struct Order {
     m: u32,
@@ -26,6 +26,7 @@ impl Order {
         Ok(Order { m })
     }
 
+    #[tactic(auto, using(std::proofs::Common::pow_mono))]
     pub(super) fn cells(self) -> usize
         ensures power { result ≡ 2 ^ self.m }
         ensures few { result ≤ 32 }
@@ -52,6 +53,7 @@ impl Order {
     }
 
     // A word with each digit reversed.
+    #[tactic(auto, using(crate::proofs::HalvesLaws::all_ones))]
     pub(super) fn reverse(self, word: u32) -> u32
         requires as_wide { word < 2 ^ (2 ^ self.m) }
         ensures { result ≡ 2 ^ (2 ^ self.m) - 1 - word }
@@ -60,6 +62,7 @@ impl Order {
     }
 
     // Word a. Its lower half is the word of a's lower digits; so is its upper half, reversed where a's highest digit is 1.
+    #[tactic(auto, using(crate::proofs::HalvesLaws::joins))]
     pub(super) fn word(self, a: usize) -> u32
         requires one_of_them { a < 2 ^ self.m }
         ensures { result ≡ row_word self.m a }
@@ -82,6 +85,7 @@ impl Order {
     }
 
     // Whether a word is one of the words or complements: its halves are alike, and the lower one is one of those of half the cells.
+    #[tactic(auto, using(crate::proofs::HalvesLaws::half_few))]
     pub(super) fn is_codeword(self, word: u32) -> bool
         requires as_wide { word < 2 ^ (2 ^ self.m) }
         ensures { IsTrue result ↔ (Codeword self.m word) }

@@ -6,6 +6,7 @@ ghost use Rattle.codes.specs.ReedMuller.{spectrum};
 use super::order::Order;
 
 // Puts the sums of the entries of two halves of a table into the lower half, and their differences into the upper.
+#[tactic(auto, using(crate::proofs::ButterflyLaws::partly_at, crate::proofs::ButterflyLaws::partly_all))]
 fn butterflies(low: &mut [i64], high: &mut [i64])
     requires two_halves { length low.old ≡ length high.old }
     requires low_is_small { within (2 ^ 35) low.old ≡ true }
@@ -22,6 +23,7 @@ fn butterflies(low: &mut [i64], high: &mut [i64])
 
 impl Order {
     // The fast Hadamard transform of a table of gains, in place: entry a becomes the correlation of word a.
+    #[tactic(auto, using(crate::proofs::TransformLaws::transforms))]
     pub(super) fn transform(self, table: &mut [i64])
         requires as_wide { length table.old ≡ 2 ^ self.m }
         requires small { within (2 ^ 30) table.old ≡ true }

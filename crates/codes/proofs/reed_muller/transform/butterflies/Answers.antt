@@ -1,19 +1,7 @@
 use Rattle.std.proofs.Common.{arith}
 use Rattle.std.proofs.lemmas.Int.{ints}
-use Rattle.codes.proofs.ButterflyLaws.{partly_at, partly_more, partly_all}
+use Rattle.codes.proofs.ButterflyLaws.{partly_at, partly_more}
 use Rattle.codes.proofs.reed_muller.transform.butterflies.Goals as goal
-
-pub overflow_add-sum : goal.overflow_add-sum
-overflow_add-sum c =
-    let x = partly_at c.loop-i.invariant.0 _ c.requires.low_is_small c.loop-i-test.true in
-    let y = partly_at c.loop-i.invariant.1 _ c.requires.high_is_small (omega (arith, c.requires.two_halves, c.loop-i-test.true)) in
-    omega (arith, ints, x.1, y.1)
-
-pub overflow_sub-high : goal.overflow_sub-high
-overflow_sub-high c =
-    let x = partly_at c.loop-i.invariant.0 _ c.requires.low_is_small c.loop-i-test.true in
-    let y = partly_at c.loop-i.invariant.1 _ c.requires.high_is_small (omega (arith, c.requires.two_halves, c.loop-i-test.true)) in
-    omega (arith, ints, x.1, y.1)
 
 pub loop-i-preserved : goal.loop-i-preserved
 loop-i-preserved c =
@@ -22,9 +10,3 @@ loop-i-preserved c =
       partly_more c.loop-i.invariant.0 _ (omega (arith, c.loop-i.auto.low, c.loop-i-test.true)) (omega (arith, ints, x.0, x.1, y.0, y.1)),
       partly_more c.loop-i.invariant.1 _ (omega (arith, c.loop-i.auto.high, c.requires.two_halves, c.loop-i-test.true)) (omega (arith, ints, x.0, x.1, y.0, y.1)),
     )
-
-pub returns-clause-sums : goal.returns-clause-sums
-returns-clause-sums c = partly_all c.loop-i.invariant.0 c.requires.two_halves c.loop-i.auto.low (omega (arith, c.loop-i-test.false))
-
-pub returns-clause-differences : goal.returns-clause-differences
-returns-clause-differences c = partly_all c.loop-i.invariant.1 c.requires.two_halves (omega (arith, c.loop-i.auto.high, c.requires.two_halves)) (omega (arith, c.loop-i-test.false))

@@ -1,4 +1,4 @@
-use Rattle.std.proofs.Common.{◌≡◌, ℕ, ◌*◌, ◌%◌, ◌^◌, ◌≤◌, arith, mod-lt, pow_pos}
+use Rattle.std.proofs.Common.{◌≡◌, ℕ, ◌*◌, ◌%◌, ◌^◌, ◌≤◌, pow_pos}
 use Rattle.codes.proofs.HalvesLaws.{half_few, half_power, test_passes, test_fails}
 use Rattle.codes.proofs.reed_muller.order.Order.+is_codeword.Goals as goal
 use Rattle.codes.proofs.reed_muller.order.Order.+is_codeword.Goals.{After-cells-cells}
@@ -9,20 +9,8 @@ few t c = half_few c.args.self.m c.in-Some.half.m c.cells-cells.result c.args.se
 power : (t : ℕ) (c : After-cells-cells t) → (1 * 2 ^ c.cells-cells.result) % 2 ^ 32 ≡ 2 ^ (2 ^ c.in-Some.half.m)
 power t c = half_power c.in-Some.half.m c.cells-cells.result (few t c) c.cells-cells.ensures.power
 
-pub overflow_shl-low : goal.overflow_shl-low
-overflow_shl-low t c = omega (arith, few t c)
-
 pub nonzero_rem-low : goal.nonzero_rem-low
 nonzero_rem-low t c = rw (power t c) (pow_pos (2 ^ c.in-Some.half.m))
-
-pub overflow_shr-high : goal.overflow_shr-high
-overflow_shr-high t c = omega (arith, few t c)
-
-pub are_alike-requires : goal.are_alike-requires
-are_alike-requires t c = record { as_wide = rw (power t (goal.at.are_alike-requires t c).After-cells-cells) (mod-lt c.args.word (pow_pos (2 ^ c.in-Some.half.m))) }
-
-pub is_codeword-requires : goal.is_codeword-requires
-is_codeword-requires t c = (omega (arith, c.decreases, c.in-Some.ensures), rw (power t (goal.at.is_codeword-requires t c).After-cells-cells) (mod-lt c.args.word (pow_pos (2 ^ c.in-Some.half.m))))
 
 pub returns-then-are_alike : goal.returns-then-are_alike
 returns-then-are_alike t c = test_passes _ _ _ _ c.args.word c.in-Some.ensures c.cells-cells.ensures.power (power t (goal.at.returns-then-are_alike t c).After-cells-cells) _ (c.are_alike.ensures.0 c.if-are_alike.true) c.is_codeword.ensures
