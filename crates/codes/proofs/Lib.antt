@@ -1,3 +1,4 @@
 pub mod ButterflyLaws
 pub mod HalvesLaws
 pub mod TransformLaws
+pub mod SignSteps

@@ -9,6 +9,7 @@ use Rattle.std.specs.List.{AllByRecursion}
 use Rattle.std.proofs.lemmas.Nat.{one_shl}
 use Rattle.std.proofs.ByRecursion.{All-weaker}
 use Rattle.std.proofs.lemmas.List.{length-map, get_or-map}
+use Rattle.std.proofs.lemmas.List.Sums.{sum_by-cons}
 use Rattle.std.proofs.lemmas.Int.{ints}
 use Rattle.std.proofs.lemmas.Bool.{leb-true, eqb-true, eqb-false, cond_both, cases_eq}
 use Rattle.finders.specs.Choice.{IsFirst, no_larger}
@@ -47,11 +48,11 @@ other_parity_loses m w (g ∷ gs) b a o = go (cases_eq (w % 2) (sign g)) (other_
     go : (w % 2 ≡ sign g) ⊎ (w % 2 ≢ sign g) → ((count_ones (w / 2) % 2 ≢ count_ones (word (signs gs)) % 2) → (correlation (w / 2) gs +ℤ pos (2 * m)) ≤ℤ pos (total gs)) → (correlation w (g ∷ gs) +ℤ pos (2 * m)) ≤ℤ pos (total (g ∷ gs))
     go (inl e) ih =
         let rest = ih (λ f. o (omega (arith, ones_step w, ones_cons (sign g) (word (signs gs)) (sign_digit g)))) in
-        let s = signed_most (w % 2) g in omega (arith, ints)
+        let s = signed_most (w % 2) g in omega (arith, ints, sum_by-cons unsigned_abs g gs)
     go (inr n) ih =
         let s = signed_other (w % 2) g (omega arith) n in
         let rest = correlation_most (w / 2) gs in
-        let l = a.0 in omega (arith, ints)
+        let l = a.0 in omega (arith, ints, sum_by-cons unsigned_abs g gs)
 
 -- ---- a cell reversed
 
@@ -65,10 +66,10 @@ reversed_at_correlation [] i k = absurd (omega arith)
 reversed_at_correlation (g ∷ gs) zero k =
     let d = reversed_digit (sign g) in
     let s = signed_other (reversed (sign g)) g d (λ e. omega (arith, sign_digit g)) in
-    rw (correlation_cons (reversed (sign g)) (word (signs gs)) g gs d, s, correlation_signs gs) (omega (arith, ints))
+    rw (correlation_cons (reversed (sign g)) (word (signs gs)) g gs d, s, correlation_signs gs) (omega (arith, ints, sum_by-cons unsigned_abs g gs))
 reversed_at_correlation (g ∷ gs) (suc i) k =
     let ih = reversed_at_correlation gs i (omega arith) in
-    rw (correlation_cons (sign g) (word (reversed_at (signs gs) i)) g gs (sign_digit g), signed_own g) (omega (arith, ints))
+    rw (correlation_cons (sign g) (word (reversed_at (signs gs) i)) g gs (sign_digit g), signed_own g) (omega (arith, ints, sum_by-cons unsigned_abs g gs))
 
 pub reversed_at_parity : (ds : List ℕ) (i : ℕ) → AllByRecursion Digit ds → i < length ds → count_ones (word (reversed_at ds i)) % 2 + count_ones (word ds) % 2 ≡ 1
 reversed_at_parity [] i h k = absurd (omega arith)

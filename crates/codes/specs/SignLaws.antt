@@ -1,8 +1,9 @@
 -- The word of signs: no word has a greater correlation.
-use Rattle.std.specs.Prelude.{◌≡◌, ℕ, ◌+◌, ◌/◌, ◌%◌, ◌^◌, ◌<◌, true, false, cond, List, [], ◌∷◌, length, ℤ, pos, negsuc, neg_ℤ, ◌≤ℤ◌, ◌==◌, unsigned_abs, refl}
+use Rattle.std.specs.Prelude.{◌≡◌, ℕ, sum_by, ◌/◌, ◌%◌, ◌^◌, ◌<◌, true, false, cond, List, [], ◌∷◌, length, ℤ, pos, negsuc, neg_ℤ, ◌≤ℤ◌, ◌==◌, unsigned_abs, refl}
 use Rattle.std.proofs.Common.{arith}
 use Rattle.std.specs.List.{AllByRecursion}
 use Rattle.std.proofs.lemmas.List.{length-map}
+use Rattle.std.proofs.lemmas.List.Sums.{sum_by-cons}
 use Rattle.std.proofs.lemmas.Int.{ints}
 use Rattle.finders.specs.Words.{correlation, signed}
 use Rattle.codes.specs.Digits.{word}
@@ -11,8 +12,7 @@ use Rattle.codes.specs.DigitLaws.{Digit, map_digits, word_below, correlation_con
 
 -- the sizes of the gains, added
 abbrev pub total : List ℤ → ℕ
-total [] = 0
-total (g ∷ gs) = unsigned_abs g + total gs
+total = sum_by unsigned_abs
 
 pub sign_digit : (g : ℤ) → Digit (sign g)
 sign_digit (pos n) = omega arith
@@ -34,8 +34,8 @@ signed_own (negsuc n) = refl
 
 pub correlation_most : (w : ℕ) (gs : List ℤ) → correlation w gs ≤ℤ pos (total gs)
 correlation_most w [] = omega (arith, ints)
-correlation_most w (g ∷ gs) = let a = signed_most (w % 2) g in let b = correlation_most (w / 2) gs in omega (arith, ints)
+correlation_most w (g ∷ gs) = let a = signed_most (w % 2) g in let b = correlation_most (w / 2) gs in omega (arith, ints, sum_by-cons unsigned_abs g gs)
 
 pub correlation_signs : (gs : List ℤ) → correlation (word (signs gs)) gs ≡ pos (total gs)
 correlation_signs [] = refl
-correlation_signs (g ∷ gs) = rw (correlation_cons (sign g) (word (signs gs)) g gs (sign_digit g), signed_own g, correlation_signs gs)
+correlation_signs (g ∷ gs) = rw (correlation_cons (sign g) (word (signs gs)) g gs (sign_digit g), signed_own g, correlation_signs gs, sum_by-cons unsigned_abs g gs)

@@ -32,6 +32,7 @@ impl<'a> Gains<'a> {
     }
 
     // The word with digit 1 exactly where the gain is negative, and its correlation: the sizes of the gains, added.
+    #[tactic(auto, using(crate::proofs::SignSteps::added_small, crate::specs::SignLaws::correlation_signs))]
     pub(super) fn signs(self) -> (u32, i64)
         ensures word { result.0 ≡ word_of (signs_of self.entry.all.now) }
         ensures correlation { result.1 ≡ correlation_of (word_of (signs_of self.entry.all.now)) self.entry.all.now }
