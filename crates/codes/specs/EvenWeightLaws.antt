@@ -17,7 +17,7 @@ use Rattle.finders.specs.Points.{within}
 use Rattle.finders.specs.Sizes.{in_range}
 use Rattle.finders.specs.Words.{correlation, signed}
 use Rattle.finders.specs.WordFinders.{Lawful}
-use Rattle.finders.proofs.Firsts.{first_best_is, all_mapped}
+use Rattle.finders.proofs.Firsts.{first_best_is, best_measured}
 use Rattle.finders.proofs.Scores.{no_larger_total, no_larger_chain}
 use Rattle.codes.specs.Digits.{word, reversed, reversed_at}
 use Rattle.codes.specs.Universe.{sign, signs}
@@ -95,14 +95,17 @@ reversed_at_xor (d ∷ ds) (suc i) h k =
 pub weakest_is : (gs : List ℤ) → 1 ≤ length gs → IsFirst no_larger 0 (map unsigned_abs gs) (weakest gs)
 weakest_is gs h = first_best_is no_larger no_larger_total no_larger_chain 0 (map unsigned_abs gs) (rw (length-map gs unsigned_abs) h)
 
-pub weakest_stands : (gs : List ℤ) → 1 ≤ length gs → weakest gs < length gs
-weakest_stands gs h = rw (length-map gs unsigned_abs) at (weakest_is gs h).stands
+module _ (gs : List ℤ) (some : 1 ≤ length gs) where
+  weak : (weakest gs < length gs) × AllByRecursion (λ g. no_larger (unsigned_abs (slice_index_or gs (weakest gs) (pos 0))) (unsigned_abs g) ≡ true) gs
+  weak = best_measured no_larger no_larger_total no_larger_chain unsigned_abs (pos 0) gs some
 
-none_is_weaker : (gs : List ℤ) → 1 ≤ length gs → AllByRecursion (λ g. unsigned_abs (slice_index_or gs (weakest gs) (pos 0)) ≤ unsigned_abs g) gs
-none_is_weaker gs h =
-    let m = unsigned_abs (slice_index_or gs (weakest gs) (pos 0)) in
-    let all : AllByRecursion (λ n. no_larger m n ≡ true) (map unsigned_abs gs) = rw (get_or-map unsigned_abs gs (weakest gs) (pos 0) 0 (weakest_stands gs h)) at (weakest_is gs h).none_is_better in
-    All-weaker (λ g. no_larger m (unsigned_abs g) ≡ true) (λ g. m ≤ unsigned_abs g) (λ g. leb-true m (unsigned_abs g)) gs (all_mapped (λ n. no_larger m n ≡ true) unsigned_abs gs all)
+  pub weakest_stands : weakest gs < length gs
+  weakest_stands = weak.0
+
+  none_is_weaker : AllByRecursion (λ g. unsigned_abs (slice_index_or gs (weakest gs) (pos 0)) ≤ unsigned_abs g) gs
+  none_is_weaker =
+      let m = unsigned_abs (slice_index_or gs (weakest gs) (pos 0)) in
+      All-weaker (λ g. no_larger m (unsigned_abs g) ≡ true) (λ g. m ≤ unsigned_abs g) (λ g. leb-true m (unsigned_abs g)) gs weak.1
 
 -- ---- the pick
 

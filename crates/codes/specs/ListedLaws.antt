@@ -9,7 +9,7 @@ use Rattle.finders.specs.Choice.{IsFirst, first_best, no_less}
 use Rattle.finders.specs.Sizes.{in_range}
 use Rattle.finders.specs.WordFinders.{WordLaws, Lawful}
 use Rattle.finders.specs.Words.{correlation}
-use Rattle.finders.proofs.Firsts.{first_best_is, all_mapped}
+use Rattle.finders.proofs.Firsts.{first_best_is, best_measured}
 use Rattle.finders.proofs.Scores.{no_less_total, no_less_chain, great_decides}
 use Rattle.codes.specs.declared.listed.table.Table.{Table}
 use Rattle.codes.specs.Listed.{as_wide, first_listed, listed_fit}
@@ -34,14 +34,16 @@ module _ (ws : List ℕ) (some : 1 ≤ length ws) (gs : List ℤ) where
   pub first_is : IsFirst no_less (pos 0) (scores ws gs) (first_best no_less (scores ws gs))
   first_is = first_best_is no_less no_less_total no_less_chain (pos 0) (scores ws gs) (rw length-map some)
 
+  greatest : (first_best no_less (scores ws gs) < length ws) × AllByRecursion (λ w. no_less (correlation (first_listed ws gs) gs) (correlation w gs) ≡ true) ws
+  greatest = best_measured no_less no_less_total no_less_chain (λ w. correlation w gs) 0 ws some
+
   pub first_listed_is_listed : Has ws (first_listed ws gs)
-  first_listed_is_listed = has_get_or ws (first_best no_less (scores ws gs)) 0 (rw length-map at first_is.stands)
+  first_listed_is_listed = has_get_or ws (first_best no_less (scores ws gs)) 0 greatest.0
 
   pub none_listed_is_better : (w : ℕ) → Has ws w → correlation w gs ≤ℤ correlation (first_listed ws gs) gs
   none_listed_is_better w h =
       let best = correlation (first_listed ws gs) gs in
-      let none : AllByRecursion (λ z. no_less best z ≡ true) (scores ws gs) = rw (score_of_first ws gs first_is.stands) at first_is.none_is_better in
-      (great_decides best (correlation w gs)).0 (all-has (λ v. no_less best (correlation v gs) ≡ true) ws w (all_mapped (λ z. no_less best z ≡ true) (λ v. correlation v gs) ws none) h)
+      (great_decides best (correlation w gs)).0 (all-has (λ v. no_less best (correlation v gs) ≡ true) ws w greatest.1 h)
 
 pub listed_laws : (n : ℕ) (ws : List ℕ) → in_range n ≡ true → 1 ≤ length ws → as_wide n ws ≡ true → WordLaws (listed_fit n ws)
 listed_laws n ws sized some fitting = code_laws n (Has ws) (first_listed ws)

@@ -1,8 +1,13 @@
 -- The index of the first best of a list: what makes it right, and that the choice of the first best finds it.
 use Rattle.std.proofs.Common.{◌≡◌, ℕ, suc, ◌+◌, ◌<◌, ◌≤◌, Bool, true, false, ◌⊎◌, List, [], ◌∷◌, ◌++◌, map, length, get_or, Some, None, Option, MatchOption, Decides, sym, refl, inl, inr, arith}
 use Rattle.std.specs.List.{AllByRecursion}
+use Rattle.std.proofs.lemmas.List.{length-map, get_or-map}
 use Rattle.std.proofs.lemmas.Bool.{and_parts, both_ways}
 use Rattle.finders.specs.Choice.{Chosen, numbered, as_good_as, first_best, IsFirst}
+
+pub all_mapped : {A B : Type 0} (P : B → Type 0) (f : A → B) (xs : List A) → AllByRecursion P (map f xs) → AllByRecursion (λ a. P (f a)) xs
+all_mapped P f [] h = tt
+all_mapped P f (x ∷ xs) h = (h.0, all_mapped P f xs h.1)
 
 module _ {A : Type 0} (good : A → A → Bool) where
   as_good_all : (a : A) (xs : List A) → as_good_as good a xs ≡ true → AllByRecursion (λ b. good a b ≡ true) xs
@@ -46,6 +51,14 @@ module _ {A : Type 0} (good : A → A → Bool) where
             ] refl in
             rw e (record { stands = omega (arith, f.stands); none_is_better = (over a best worse, f.none_is_better); earlier_are_worse = (worse, f.earlier_are_worse) })
 
+    -- the same of what f measures of each element of a list: an element is at that index, and none measures better
+    pub best_measured : {X : Type 0} (f : X → A) (e : X) (xs : List X) → 1 ≤ length xs → (first_best good (map f xs) < length xs) × AllByRecursion (λ x. good (f (get_or xs (first_best good (map f xs)) e)) (f x) ≡ true) xs
+    best_measured f e xs h =
+        let best = first_best_is (f e) (map f xs) (rw length-map h) in
+        let here : first_best good (map f xs) < length xs = rw length-map at best.stands in
+        let none = rw (get_or-map f xs (first_best good (map f xs)) e (f e) here) at best.none_is_better in
+        (here, all_mapped (λ a. good (f (get_or xs (first_best good (map f xs)) e)) a ≡ true) f xs none)
+
 -- ---- the choice
 
 no_offer : {X : Type 0} {x : X} {xs : List X} → ◌≡◌ {A = List X} [] (x ∷ xs) → ⊥
@@ -54,10 +67,6 @@ no_offer e = let z : ◌≡◌ {A = ℕ} 0 1 = cc in omega arith
 pub map_none : {A B : Type 0} (f : A → B) (xs : List A) → map f xs ≡ [] → xs ≡ []
 map_none f [] e = refl
 map_none f (x ∷ xs) e = absurd (no_offer (sym e))
-
-pub all_mapped : {A B : Type 0} (P : B → Type 0) (f : A → B) (xs : List A) → AllByRecursion P (map f xs) → AllByRecursion (λ a. P (f a)) xs
-all_mapped P f [] h = tt
-all_mapped P f (x ∷ xs) h = (h.0, all_mapped P f xs h.1)
 
 -- what is chosen of the scores of a list is the index of the first best
 module _ {A S : Type 0} (score : A → S) (good : A → A → Bool) (Good : S → S → Type 0) (decides : (a b : A) → Decides (good a b) (Good (score a) (score b))) (d : A) where

@@ -16,7 +16,7 @@ use Rattle.finders.specs.Choice.{IsFirst, no_smaller}
 use Rattle.finders.specs.Points.{distance, SmallResidues, within}
 use Rattle.finders.specs.Rounding.{turned}
 use Rattle.finders.proofs.Distances.{distance_set, distance_at}
-use Rattle.finders.proofs.Firsts.{first_best_is, all_mapped}
+use Rattle.finders.proofs.Firsts.{first_best_is, best_measured}
 use Rattle.finders.proofs.RoundingLaws.{turned_left, other_way_apart}
 use Rattle.finders.proofs.Scores.{no_smaller_total, no_smaller_chain}
 use Rattle.finders.proofs.Within.{within_at}
@@ -30,14 +30,16 @@ pub worst_is : (q : ℕ) (rs : List ℤ) → 1 ≤ length rs → IsFirst no_smal
 worst_is q rs h = first_best_is no_smaller no_smaller_total no_smaller_chain 0 (map (left_over q) rs) (rw length-map h)
 
 module _ (q : ℕ) (rs : List ℤ) (some : 1 ≤ length rs) where
+  worst : (worst_cell q rs < length rs) × AllByRecursion (λ r. no_smaller (left_over q (slice_index_or rs (worst_cell q rs) (pos 0))) (left_over q r) ≡ true) rs
+  worst = best_measured no_smaller no_smaller_total no_smaller_chain (left_over q) (pos 0) rs some
+
   pub worst_stands : worst_cell q rs < length rs
-  worst_stands = rw length-map at (worst_is q rs some).stands
+  worst_stands = worst.0
 
   pub none_is_worse : AllByRecursion (λ r. left_over q r ≤ left_over q (slice_index_or rs (worst_cell q rs) (pos 0))) rs
   none_is_worse =
       let m = left_over q (slice_index_or rs (worst_cell q rs) (pos 0)) in
-      let all : AllByRecursion (λ n. no_smaller m n ≡ true) (map (left_over q) rs) = rw (get_or-map (left_over q) rs (worst_cell q rs) (pos 0) 0 worst_stands) at (worst_is q rs some).none_is_better in
-      All-weaker (λ r. no_smaller m (left_over q r) ≡ true) (λ r. left_over q r ≤ m) (λ r. leb-true (left_over q r) m) rs (all_mapped (λ n. no_smaller m n ≡ true) (left_over q) rs all)
+      All-weaker (λ r. no_smaller m (left_over q r) ≡ true) (λ r. left_over q r ≤ m) (λ r. leb-true (left_over q r) m) rs worst.1
 
 -- ---- points of the other parity
 
