@@ -1,10 +1,10 @@
 -- Words of the Reed-Muller code by their halves, as the machine builds and tests them.
-use Rattle.std.proofs.Common.{◌≡◌, ℕ, suc, ◌+◌, ◌-◌, ◌*◌, ◌/◌, ◌%◌, ◌^◌, ◌<◌, ◌≤◌, Bool, false, ◌⊎◌, List, ◌++◌, map, length, Decides, sym, refl, ap, ◌∙◌, ap₂, inl, inr, mod-eq_of_lt, mod-lt, suc-mul, arith, pow_pos, pow_mono, pow-add}
+use Rattle.std.proofs.Common.{◌≡◌, ℕ, suc, ◌+◌, ◌-◌, ◌*◌, ◌/◌, ◌%◌, ◌^◌, ◌<◌, ◌≤◌, Bool, false, ◌⊎◌, List, ◌++◌, map, length, Decides, sym, refl, ap, ◌∙◌, ap₂, inl, inr, mod-eq_of_lt, mod-lt, arith, pow_pos, pow_mono}
 use mathlib.Core.List.{map-append}
 use native.Mathlib.Nat.{mod-eq-sub-mod}
 use lib.Bits.{bit_or}
 use Rattle.std.specs.List.{AllByRecursion}
-use Rattle.std.proofs.lemmas.Nat.{one_shl, shl_whole, or_comm, or_shifted, shr_high, mod_low, div-mul-add, div-add-mod'}
+use Rattle.std.proofs.lemmas.Nat.{one_shl, shl_whole, or_comm, or_shifted, shr_high, mod_low, div-add-mod'}
 use Rattle.std.proofs.lemmas.List.{length-map}
 use Rattle.std.proofs.lemmas.Bool.{cases_lt, both_ways}
 use Rattle.codes.specs.Digits.{word, reversed}
@@ -12,19 +12,6 @@ use Rattle.codes.specs.ReedMuller.{row, row_word, Codeword}
 use Rattle.codes.specs.DigitLaws.{Digit, word_below, word_append}
 use Rattle.codes.specs.ReedMullerLaws.{row_below}
 use Rattle.codes.specs.RowLaws.{row_digits, length_row, reversed_digits, reversed_word, row_low, row_high, double}
-
--- ---- a word with each digit reversed
-
--- all ones of n cells, as the machine has them
-pub all_ones : (n : ℕ) → n ≤ 32 → 4294967295 / 2 ^ (32 - n) ≡ 2 ^ n - 1
-all_ones n h =
-    let w = 2 ^ (32 - n) in
-    let k : n + (32 - n) ≡ 32 = omega arith in
-    let whole : 2 ^ n * w ≡ 2 ^ 32 = sym (pow-add 2 n (32 - n)) ∙ ap (λ (j : ℕ). 2 ^ j) k in
-    let some = pow_pos n in
-    let cut : suc (2 ^ n - 1) ≡ 2 ^ n = omega arith in
-    let parts : (2 ^ n - 1) * w + (w - 1) ≡ 4294967295 = omega (arith, rw cut at (suc-mul (2 ^ n - 1) w), pow_pos (32 - n)) in
-    rw (sym parts) (div-mul-add (2 ^ n - 1) w (w - 1) (omega (arith, pow_pos (32 - n))))
 
 -- ---- a word of two halves of n cells
 

@@ -143,9 +143,6 @@ weakest_small gs i n small here e = rw e (within_at (2 ^ 30) gs i small here)
 
 -- ---- the repair as the machine works it out: i is the weakest cell, n its gain's size, and w the word of signs, whose correlation is c
 
-abbrev pair : ℕ → ℤ → ℕ × ℤ
-pair w c = (w, c)
-
 module _ (gs : List ℤ) (i n : ℕ) (few : length gs ≤ 32) (here : i < length gs) (is_weakest : i ≡ weakest gs) where
   pub repaired_pick : (w : ℕ) (c x : ℤ) → w ≡ word (signs gs) → c ≡ correlation (word (signs gs)) gs → false ≡ even w → n ≡ unsigned_abs (slice_index_or gs i (pos 0)) → c ≡ (x +ℤ pos (2 * n)) → ◌≡◌ {A = ℕ × ℤ} (bit_xor w ((1 * 2 ^ i) % 2 ^ 32), x) (even_pick gs, correlation (even_pick gs) gs)
   repaired_pick w c x signs_are is odd size left =
@@ -155,4 +152,4 @@ module _ (gs : List ℤ) (i n : ℕ) (few : length gs ≤ 32) (here : i < length
       is ∙ correlation_signs gs ∙ sym (reversed_at_correlation gs i here)
       ∙ ap₂ (λ (j m : ℕ). correlation (word (reversed_at (signs gs) j)) gs +ℤ pos (2 * m)) is_weakest (sym size) in
       let no : even (word (signs gs)) ≡ false = rw signs_are at (sym odd) in
-      rw no (ap₂ pair turned (omega (arith, ints, sum, left)))
+      rw no (ap₂ {C = ℕ × ℤ} (λ (w : ℕ) (c : ℤ). (w, c)) turned (omega (arith, ints, sum, left)))

@@ -78,9 +78,6 @@ reed_muller_lawful m = code_lawful (2 ^ m) (Codeword m) (rm_pick m)
     (λ gs some e w h. rw (signed_pick_size m (strongest m gs) gs e) (member_small m w gs e h))
     (rm_sized m) (sized m)
 
-abbrev pair : ℕ → ℤ → ℕ × ℤ
-pair w c = (w, c)
-
 -- ---- as the machine works it out
 
 -- in a spectrum t, the entry a is the strongest; w is its word with the sign, and n its size
@@ -88,7 +85,7 @@ pub picked_is : (m a : ℕ) (gs t : List ℤ) (w : ℕ) (n : ℤ) → length gs 
 picked_is m a gs t w n wide is chosen size signed =
     let s : a ≡ strongest m gs = chosen ∙ ap (λ (v : List ℤ). first_best no_smaller (map unsigned_abs v)) is in
     let entry : slice_index_or t a (pos 0) ≡ correlation (row_word m a) gs = rw is (spectrum_at m a gs (rw s (strongest_stands m gs))) in
-    ap₂ pair (rw (sym s) (rw entry at signed)) (rw (sym s) (rw entry at size ∙ sym (signed_pick_size m a gs wide)))
+    ap₂ {C = ℕ × ℤ} (λ (w : ℕ) (c : ℤ). (w, c)) (rw (sym s) (rw entry at signed)) (rw (sym s) (rw entry at size ∙ sym (signed_pick_size m a gs wide)))
 
 -- what a find answers that the shape s of the code of 2^o cells grants
 pub answers_picked : (m o : ℕ) (s : WordShape) (gs hs : List ℤ) (r : ℕ × ℤ) (u : Unit {0}) → o ≡ m → rm_sized m ≡ true → s ≡ shape (2 ^ o) → Ok u ≡ find_checked s.width s.gain_limit gs → hs ≡ gs → r ≡ picked o hs → Ok r ≡ find_answer (reed_muller m) gs

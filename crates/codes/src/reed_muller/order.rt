@@ -53,12 +53,11 @@ impl Order {
     }
 
     // A word with each digit reversed.
-    #[tactic(auto, using(crate::proofs::HalvesLaws::all_ones))]
     pub(super) fn reverse(self, word: u32) -> u32
         requires as_wide { word < 2 ^ (2 ^ self.m) }
         ensures { result ≡ 2 ^ (2 ^ self.m) - 1 - word }
     {
-        (u32::MAX >> (32 - self.cells())) - word
+        ((1u64 << self.cells()) - 1 - u64::from(word)) as u32
     }
 
     // Word a. Its lower half is the word of a's lower digits; so is its upper half, reversed where a's highest digit is 1.
