@@ -9,7 +9,8 @@ use finders::choice::{Least, first_best};
 use finders::refusals::Refusal;
 use finders::words::{WordFinder, WordShape, WordTester};
 
-// The words with an even number of ones.
+// The words with an even number of ones. `Universe` has the same field and the same shape, a line each; to hold both in one type, a
+// parameter would have to carry the set, the pick, the test and their laws, which are all that a code is.
 #[derive(Clone, Copy)]
 pub struct EvenWeight {
     width: usize,
@@ -53,6 +54,7 @@ fn even_signs(gains: Gains) -> (u32, i64)
     if has_even_weight(word) {
         return (word, correlation);
     }
+    // both cases are words: with no gains there is nothing to reverse
     match weakest(gains.all) {
         Some((i, Least(size))) => (word ^ (1 << i), correlation - 2 * size as i64),
         None => (word, correlation),

@@ -63,7 +63,7 @@ impl<'a> Gains<'a> {
         sum
     }
 
-    // A table that begins with the gains.
+    // A table that begins with the gains. Written by index: of what a loop over `zip` with `iter_mut` writes, the checker knows nothing.
     pub(super) fn table(self) -> [i64; MOST_CELLS]
         ensures { take (length self.entry.all.now) result ≡ self.entry.all.now }
     {

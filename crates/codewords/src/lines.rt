@@ -44,7 +44,7 @@ fn listed_asked(heap: Global, words: &[&str]) -> Result<Codeword, Failure>
     parts_asked(heap, &words[..slash], &words[slash + 1..])
 }
 
-// What the words behind the name of a task are answered.
+// What the words behind the name of a task are answered: a match, since each of the two kinds of task takes other words.
 fn asked(heap: Global, task: Task, words: &[&str]) -> Result<Codeword, Failure>
     ensures { UnlessMemory result (TaskAnswer task (texts words.now)) }
 {

@@ -10,7 +10,7 @@ use codes::universe::Universe;
 use finders::refusals::Refusal;
 use finders::words::WordFinder;
 
-// The codes that a task can name.
+// The codes that a task can name: a closed list, so an enum, and `find` matches on it; a `dyn` value would be made and handed out.
 #[derive(Clone, Copy)]
 pub enum Code {
     Universe,

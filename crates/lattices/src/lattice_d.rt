@@ -10,7 +10,8 @@ use finders::points::{PointFinder, PointShape, PointTester};
 use finders::refusals::Refusal;
 use finders::rounding::{residue_of, round};
 
-// The lattice D: the points with an even sum.
+// The lattice D: the points with an even sum. `LatticeZ` has the same field and the same shape, a line each; to hold both in one type,
+// a parameter would have to carry the set, the pick, the test and their laws, which are all that a lattice is.
 #[derive(Clone, Copy)]
 pub struct LatticeD {
     width: usize,

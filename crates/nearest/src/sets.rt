@@ -8,7 +8,7 @@ use lattices::lattice_d::LatticeD;
 use lattices::lattice_z::LatticeZ;
 use std::str::FromStr;
 
-// The sets that a task can name.
+// The sets that a task can name: a closed list, so an enum, and `find` matches on it; a `dyn` value would be made and handed out.
 #[derive(Clone, Copy)]
 pub enum Lattice {
     Z,

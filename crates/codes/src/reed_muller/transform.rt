@@ -5,7 +5,8 @@ ghost use Rattle.codes.specs.ReedMuller.{spectrum};
 
 use super::order::Order;
 
-// Puts the sums of the entries of two halves of a table into the lower half, and their differences into the upper.
+// Puts the sums of the entries of two halves of a table into the lower half, and their differences into the upper. The upper half is
+// written by index: of what a loop over `zip` writes, the checker knows nothing.
 #[tactic(auto, using(crate::proofs::ButterflyLaws::partly_at, crate::proofs::ButterflyLaws::partly_all))]
 fn butterflies(low: &mut [i64], high: &mut [i64])
     requires two_halves { length low.old ≡ length high.old }
