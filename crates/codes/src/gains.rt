@@ -5,6 +5,7 @@ ghost use Rattle.codes.specs.Digits.{word as word_of};
 ghost use Rattle.codes.specs.Universe.{signs as signs_of};
 
 use finders::points::MOST_CELLS;
+use std::array;
 
 // Gains that a code has granted a find of: so few and so small that what is added up of them fits.
 #[derive(Clone, Copy)]
@@ -63,14 +64,10 @@ impl<'a> Gains<'a> {
         sum
     }
 
-    // A table that begins with the gains. Written by index: of what a loop over `zip` with `iter_mut` writes, the checker knows nothing.
+    // A table that begins with the gains, and holds zeros behind them.
     pub(super) fn table(self) -> [i64; MOST_CELLS]
         ensures { take (length self.entry.all.now) result ≡ self.entry.all.now }
     {
-        let mut table = [0; MOST_CELLS];
-        for (i, gain) in self.all.iter().enumerate() {
-            table[i] = i64::from(*gain);
-        }
-        table
+        array::from_fn(|i| self.all.get(i).map_or(0, |gain| i64::from(*gain)))
     }
 }
