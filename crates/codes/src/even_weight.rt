@@ -54,7 +54,7 @@ fn even_signs(gains: Gains) -> (u32, i64)
     if has_even_weight(word) {
         return (word, correlation);
     }
-    // both cases are words: with no gains there is nothing to reverse
+    // both cases are words: with no gains there is nothing to reverse; the size is proved to fit
     match weakest(gains.all) {
         Some((i, Least(size))) => (word ^ (1 << i), correlation - 2 * size as i64),
         None => (word, correlation),

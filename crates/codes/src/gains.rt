@@ -48,6 +48,7 @@ impl<'a> Gains<'a> {
             .iter()
             .map(|gain| u64::from(gain.unsigned_abs()))
             .sum();
+        // the sum is proved to fit; a `TryFrom` would bring an error that never comes
         (word, sizes as i64)
     }
 
@@ -64,7 +65,7 @@ impl<'a> Gains<'a> {
         sum
     }
 
-    // A table that begins with the gains, and holds zeros behind them.
+    // A table that begins with the gains, and holds zeros behind them: of fixed length, since the library allocates nothing.
     pub(super) fn table(self) -> [i64; MOST_CELLS]
         ensures { take (length self.entry.all.now) result ≡ self.entry.all.now }
     {

@@ -11,6 +11,7 @@ use lines::respond;
 use std::io;
 use worked::all_worked_words_hold;
 
+// Four lines that `nearest` has too: to share them would take a call that is handed the runtime and prints.
 fn main(rt: HostRuntime) -> anyhow::Result<()> {
     all_worked_words_hold();
     let heap = rt.alloc();

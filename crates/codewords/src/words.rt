@@ -18,7 +18,7 @@ pub enum Code {
     ReedMuller,
 }
 
-// The m of the Reed-Muller code of so many cells.
+// The m of the Reed-Muller code of so many cells: a table, which five cases make as plain as a logarithm and its test.
 fn m_of(cells: usize) -> Option<u32>
     ensures { result ≡ m_of cells }
 {

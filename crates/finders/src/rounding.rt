@@ -47,7 +47,7 @@ pub fn residue_of(reading: i32, step: u32, number: i32) -> i64
 }
 
 impl Rounded {
-    // Both of 64 bits, where they fit 32.
+    // Both of 64 bits, where they fit 32: each `as` is proved to keep its value.
     fn of(number: i64, residue: i64) -> Rounded
         requires number_fits { FitsSigned w32 number }
         requires residue_fits { FitsSigned w32 residue }

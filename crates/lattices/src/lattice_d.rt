@@ -57,11 +57,13 @@ impl Group<'_> {
         ensures point { place.new ≡ repaired self.now.step self.now.readings.now }
         ensures distance { result ≡ distance_of self.now.step self.now.readings.now (repaired self.now.step self.now.readings.now) }
     {
+        // a group of no cell has no worst one, and nothing to repair
         let Some(i) = self.worst(place) else {
             return distance;
         };
         let cell = round(self.readings[i], self.step);
         let size = cell.residue.unsigned_abs();
+        // of readings of 2^30 it is proved to fit; a `TryFrom` would bring an error that never comes
         place[i] = cell.other_way() as i32;
         distance - square(size) + square(self.step - size)
     }

@@ -52,7 +52,7 @@ impl Order {
         Some(Order { m })
     }
 
-    // A word with each digit reversed.
+    // A word with each digit reversed. What the `as` narrows is proved to fit.
     pub(super) fn reverse(self, word: u32) -> u32
         requires as_wide { word < 2 ^ (2 ^ self.m) }
         ensures { result ≡ 2 ^ (2 ^ self.m) - 1 - word }
