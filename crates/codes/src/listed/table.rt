@@ -24,7 +24,7 @@ pub(super) struct Table {
 
 // An array that begins with these words.
 fn copied(words: &[u32]) -> [u32; MOST_WORDS]
-    requires few { length words.now ≤ 64 }
+    requires few { length words.now ≤ MOST_WORDS }
     ensures begins { take (length words.now) result ≡ words.now }
     ensures holds { length words.now ≤ length result }
 {
