@@ -3,7 +3,7 @@ use Rattle.std.proofs.Common.{◌≡◌, ℕ, zero, suc, ◌+◌, ◌<◌, List,
 use Rattle.std.specs.List.{AllZip, Any}
 use Rattle.std.specs.Str.Parse.{ParsesSigned, ParsesUnsigned, ExplainsSignedError, ExplainsUnsignedError, HasSignedDigitsIfOk, HasUnsignedDigitsIfOk}
 use Rattle.std.proofs.lemmas.Slice.Zip.{all_zipped_more}
-use Rattle.std.proofs.lemmas.List.{map_more, length-map, get_or-map}
+use Rattle.std.proofs.lemmas.List.{map_more}
 use Rattle.tasks.specs.Lines.{texts}
 use Rattle.tasks.specs.declared.failure.Failure.{Failure}
 use Rattle.tasks.specs.declared.failure.Failure.TheVariants.{Refused, Unreadable, Memory}
@@ -15,9 +15,6 @@ use Rattle.tasks.specs.Numbers.{WritesSigned, WritesUnsigned, Unwritten, Reads, 
 module _ (words : List (Bor (List ℕ))) (d : Bor (List ℕ)) (i : ℕ) (here : i < length words) where
   pub numbers_more : {N : Type 0} (R : List ℕ → N → Type 0) (xs more : List N) (x : N) → AllZip R (texts (take i words)) xs → R (get_or words i d).now x → more ≡ xs ++ x ∷ [] → AllZip R (texts (take (i + 1) words)) more
   numbers_more R xs more x h k e = rw (e, map_more (λ (w : Bor (List ℕ)). w.now) words i d here) (all_zipped_more R (texts (take i words)) xs (get_or words i d).now x h k)
-
-  pub some_word : (P : List ℕ → Type 0) → P (get_or words i d).now → Any P (texts words)
-  some_word P p = (i, (get_or words i d).now, simp length-map here, get_or-map (λ (w : Bor (List ℕ)). w.now) words i d (get_or words i d).now here, p)
 
 -- ---- what was read
 
