@@ -65,7 +65,8 @@ impl<'a> Gains<'a> {
         sum
     }
 
-    // A table that begins with the gains, and holds zeros behind them: of fixed length, since the library allocates nothing.
+    // A table that begins with the gains, and holds zeros behind them: of fixed length, since the library
+    // allocates nothing; an `ArrayVec` would bring a crate for this one value.
     pub(super) fn table(self) -> [i64; MOST_CELLS]
         ensures { take (length self.entry.all.now) result ≡ self.entry.all.now }
     {

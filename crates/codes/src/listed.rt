@@ -60,6 +60,7 @@ impl WordFinder for Listed {
         let table = self.table()?;
         table.shape().check_find(gains)?;
         let words = table.words();
+        // a table has some word, so there is a best one
         let (i, Greatest(correlation)) = best_of(words, Gains::new(gains)).unwrap();
         Ok((words[i], correlation))
     }

@@ -11,7 +11,7 @@ use lines::respond;
 use std::io;
 use worked::all_worked_words_hold;
 
-// Four lines that `nearest` has too: to share them would take a call that is handed the runtime and prints.
+// As that of `nearest`: shared, it would be one call that is handed the runtime, the heap and `respond`, and no shorter.
 fn main(rt: HostRuntime) -> anyhow::Result<()> {
     all_worked_words_hold();
     let heap = rt.alloc();

@@ -37,8 +37,8 @@ impl Score for Least {
     }
 }
 
-// Best when greatest, as a correlation or the size of a residue. A type beside `Least`, and not that of a reversed order:
-// then a search says by the name which way it goes, and no size is turned into a signed number or back.
+// Best when greatest, as a correlation or the size of a residue. A type beside `Least`, and not that of a reversed order,
+// which is no shorter: so a search says by the name which way it goes.
 #[derive(Clone, Copy)]
 pub struct Greatest(pub i64);
 

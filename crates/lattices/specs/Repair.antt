@@ -50,7 +50,7 @@ trade s t = omega (arith, add-mul s t s, add-mul s t (s + t), mul-add s s t, mul
 pub turned_cost : (q s : ℕ) → s ≤ q → (q - s) * (q - s) + 2 * (q * s) ≡ q * q + s * s
 turned_cost q s h = let e : s + (q - s) ≡ q = omega arith in rw e at (trade s (q - s))
 
-parity_cons : (x s : ℤ) → unsigned_abs (x +ℤ s) % 2 ≡ (unsigned_abs x + unsigned_abs s % 2) % 2
+pub parity_cons : (x s : ℤ) → unsigned_abs (x +ℤ s) % 2 ≡ (unsigned_abs x + unsigned_abs s % 2) % 2
 parity_cons x s = omega (arith, ints)
 
 -- where no residue of the rounded point is larger in size than m: a point of another parity differs from it in a cell, and costs
@@ -87,14 +87,17 @@ small_set q (r ∷ rs) (x ∷ xs) (suc i) y h k = (k.0, small_set q rs xs i y h 
 pub length_turned : (q : ℕ) (rs : List ℤ) (i : ℕ) → length (turned_at q rs i) ≡ length rs
 length_turned q rs i = length-set (rounded q rs) i (turned q (slice_index_or rs i (pos 0))) ∙ length_rounded q rs
 
+pub rounded_at : (q : ℕ) (rs xs : List ℤ) (i : ℕ) → xs ≡ rounded q rs → i < length rs → slice_index_or xs i (pos 0) ≡ nearest q (slice_index_or rs i (pos 0))
+rounded_at q rs xs i e h = rw e (get_or-map (nearest q) rs i (pos 0) (pos 0) h)
+
 module _ (q : ℕ) (rs : List ℤ) (i : ℕ) (here : i < length rs) where
-  rounded_at : slice_index_or (rounded q rs) i (pos 0) ≡ nearest q (slice_index_or rs i (pos 0))
-  rounded_at = get_or-map (nearest q) rs i (pos 0) (pos 0) here
+  at_here : slice_index_or (rounded q rs) i (pos 0) ≡ nearest q (slice_index_or rs i (pos 0))
+  at_here = rounded_at q rs (rounded q rs) i refl here
 
   pub turn_changes_parity : parity (turned_at q rs i) + parity (rounded q rs) ≡ 1
   turn_changes_parity =
       let r = slice_index_or rs i (pos 0) in
-      parity_set (rounded q rs) i (turned q r) (omega (arith, length_rounded q rs)) (rw rounded_at (other_way_apart (residue q r (nearest q r)) (nearest q r)))
+      parity_set (rounded q rs) i (turned q r) (omega (arith, length_rounded q rs)) (rw at_here (other_way_apart (residue q r (nearest q r)) (nearest q r)))
 
   pub near_turned : 1 ≤ q → q ≤ 2 ^ 20 → SmallResidues q rs (turned_at q rs i)
   near_turned p t = small_set q rs (rounded q rs) i (turned q (slice_index_or rs i (pos 0))) (omega (arith, turned_left q (slice_index_or rs i (pos 0)) p)) (near_rounded q rs p t)
@@ -105,7 +108,7 @@ module _ (q : ℕ) (rs : List ℤ) (i : ℕ) (here : i < length rs) where
   turn_costs p =
       let r = slice_index_or rs i (pos 0) in
       let wide = length_rounded q rs in
-      (rw rounded_at at (distance_at q rs (rounded q rs) i wide here), rw (rounded_at, turned_left q r p) at (distance_set q rs (rounded q rs) i (turned q r) wide here))
+      (rw at_here at (distance_at q rs (rounded q rs) i wide here), rw (at_here, turned_left q r p) at (distance_set q rs (rounded q rs) i (turned q r) wide here))
 
   pub turned_small : 1 ≤ q → within (2 ^ 30) rs ≡ true → unsigned_abs (turned q (slice_index_or rs i (pos 0))) ≤ 2 ^ 30 + 1
   turned_small p k =

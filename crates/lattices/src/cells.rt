@@ -21,7 +21,7 @@ pub(super) fn shape_of(width: usize) -> Result<PointShape, Refusal>
 }
 
 // The readings and the step of a find that is granted.
-#[derive(Drop)]
+#[derive(Clone, Copy)]
 pub(super) struct Group<'a> {
     pub(super) readings: &'a [i32],
     pub(super) step: u32,
@@ -44,7 +44,8 @@ impl Group<'_> {
         ensures point { place.new ≡ rounded self.now.step self.now.readings.now }
         ensures distance { result ≡ distance self.now.step self.now.readings.now (rounded self.now.step self.now.readings.now) }
     {
-        // the readings stand in the place, and each gives way to its number
+        // the readings stand in the place, and each gives way to its number: of a loop over `zip` with `iter_mut` the checker
+        // would know nothing
         place.copy_from_slice(self.readings);
         let mut distance = 0;
         for coordinate in place.iter_mut() {

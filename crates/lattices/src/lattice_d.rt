@@ -29,7 +29,7 @@ impl LatticeD {
     }
 }
 
-// Whether the numbers of a point add to an even number.
+// Whether the numbers of a point add to an even number. A fold, without a branch: `filter` and `count` were measured slower.
 fn has_even_sum(point: &[i32]) -> bool
     ensures { result ≡ (parity point.now == 0) }
 {
@@ -57,7 +57,7 @@ impl Group<'_> {
         ensures point { place.new ≡ repaired self.now.step self.now.readings.now }
         ensures distance { result ≡ distance_of self.now.step self.now.readings.now (repaired self.now.step self.now.readings.now) }
     {
-        // a group of no cell has no worst one, and nothing to repair
+        // no cell, nothing to repair: said by itself, since a `map_or` would hide it
         let Some(i) = self.worst(place) else {
             return distance;
         };

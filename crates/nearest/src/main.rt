@@ -8,7 +8,7 @@ mod sets;
 use lines::respond;
 use std::io;
 
-// Four lines that `codewords` has too: to share them would take a call that is handed the runtime and prints.
+// As that of `codewords`: shared, it would be one call that is handed the runtime, the heap and `respond`, and no shorter.
 fn main(rt: HostRuntime) -> anyhow::Result<()> {
     let heap = rt.alloc();
     for line in rt.lines(heap) {

@@ -13,6 +13,7 @@ const STEP: u32 = 10;
 
 fn print_point(rt: &impl Print, readings: &[i32; 4]) -> io::Result<()> {
     let mut place = [0; 4];
+    // each case prints a line of its own
     match LatticeD::new(4).find(readings, STEP, &mut place) {
         Ok(distance) => println!(rt; "D of {readings:?} is {place:?} at {distance}"),
         Err(refusal) => println!(rt; "D of {readings:?} is {refusal}"),

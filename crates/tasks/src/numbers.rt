@@ -6,7 +6,7 @@ use std::alloc::Global;
 use std::num::ParseIntError;
 use std::str::FromStr;
 
-// The numbers that the words write. A loop, since of a `collect` into a `Result` nothing says that it fails where a word does.
+// The numbers that the words write. A loop with `?`, since of a `collect` into a `Result` nothing says that it fails where a word does.
 pub fn numbers<T: FromStr<Err = ParseIntError> + Drop>(
     heap: Global,
     words: &[&str],

@@ -3,14 +3,16 @@ ghost use Rattle.finders.specs.Sizes.{in_range};
 ghost use Rattle.codes.specs.Codes.{shape};
 ghost use Rattle.codes.specs.Listed.{few, as_wide, listed};
 
+use super::super::shapes::shape;
 use finders::checks::{check_width, has_digit_beyond};
 use finders::refusals::Refusal;
-use finders::words::{MOST_GAIN, WordShape};
+use finders::words::WordShape;
 
 // The most words of a list.
 const MOST_WORDS: usize = 64;
 
-// Words of a width: the first `count` of an array of fixed length, since the library allocates nothing. The rest of it is not used.
+// Words of a width: the first `count` of an array of fixed length, since the library allocates nothing, and `Listed` is `Copy`, which an
+// `ArrayVec` is not. The rest of the array is not used.
 #[derive(Clone, Copy)]
 pub(super) struct Table {
     width: usize,
@@ -67,9 +69,6 @@ impl Table {
     pub(super) fn shape(&self) -> WordShape
         ensures { result ≡ shape self.now.width }
     {
-        WordShape {
-            width: self.width,
-            gain_limit: MOST_GAIN,
-        }
+        shape(self.width)
     }
 }

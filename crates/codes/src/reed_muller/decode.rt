@@ -42,6 +42,7 @@ impl Order {
         ensures { result ≡ picked self.m table.old }
     {
         self.transform(table);
+        // a table has an entry for each cell, and there is one
         let (a, Greatest(size)) = strongest(table).unwrap();
         (self.signed_word(a, table[a] < 0), size)
     }

@@ -3,13 +3,15 @@ ghost use Rattle.finders.specs.declared.refusals.Refusal.TheVariants.{Width};
 ghost use Rattle.codes.specs.Codes.{shape};
 ghost use Rattle.codes.specs.ReedMuller.{rm_sized, row_word, Codeword};
 
+use super::super::shapes::shape;
 use finders::refusals::Refusal;
-use finders::words::{MOST_GAIN, WordShape};
+use finders::words::WordShape;
 
 // The largest m of 2^m cells.
 const MOST_M: u32 = 5;
 
-// The m of a code whose 2^m cells a word has room for.
+// The m of a code of 2^m cells, of which a word has room for the digits. That a word has no digit beyond them, three methods require: as a
+// type of its own it would be taken apart at once, to be shifted and cut.
 #[derive(Clone, Copy)]
 pub(super) struct Order {
     m: u32,
@@ -38,10 +40,7 @@ impl Order {
         ensures cells { result ≡ shape (2 ^ self.m) }
         ensures few { result.width ≤ 32 }
     {
-        WordShape {
-            width: self.cells(),
-            gain_limit: MOST_GAIN,
-        }
+        shape(self.cells())
     }
 
     // The order of half the cells; none where there is one cell.

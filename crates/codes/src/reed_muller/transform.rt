@@ -24,6 +24,7 @@ fn butterflies(low: &mut [i64], high: &mut [i64])
 
 impl Order {
     // The fast Hadamard transform of a table of gains, in place: entry a becomes the correlation of word a.
+    // `pick` requires the same of the table: no type holds it, since the numbers that the transform leaves are larger.
     #[tactic(auto, using(crate::proofs::TransformLaws::transforms))]
     pub(super) fn transform(self, table: &mut [i64])
         requires as_wide { length table.old ≡ 2 ^ self.m }
