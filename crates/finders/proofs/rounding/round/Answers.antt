@@ -45,9 +45,6 @@ of-requires-then-residue-step-2-clause-number_fits c = (down c).0
 pub of-requires-then-residue-step-2-clause-residue_fits : goal.of-requires-then-residue-step-2-clause-residue_fits
 of-requires-then-residue-step-2-clause-residue_fits c = (down c).1
 
-pub of-requires-else-residue-step-2-clause-number_fits : goal.of-requires-else-residue-step-2-clause-number_fits
-of-requires-else-residue-step-2-clause-number_fits c = (off c).0
-
 pub of-requires-else-residue-step-2-clause-residue_fits : goal.of-requires-else-residue-step-2-clause-residue_fits
 of-requires-else-residue-step-2-clause-residue_fits c = (off c).1
 
