@@ -7,7 +7,7 @@ use Rattle.codes.specs.Listed.{listed}
 use Rattle.tasks.specs.declared.failure.Failure.{Failure}
 use Rattle.tasks.specs.declared.failure.Failure.TheVariants.{Unreadable}
 use Rattle.tasks.specs.Lines.{AnswersByName}
-use Rattle.tasks.specs.Numbers.{Signeds, Unsigneds, Reads}
+use Rattle.tasks.specs.Numbers.{Signeds, Unsigneds, Reads, ReadsBoth}
 use Rattle.codewords.specs.declared.found.Codeword.{Codeword}
 use Rattle.codewords.specs.declared.names.Task.{Task}
 use Rattle.codewords.specs.declared.names.Task.TheVariants.{Codewords, Listed}
@@ -27,7 +27,7 @@ CodeAnswer k ws = Reads Signeds ws (λ gs. FindsWord (code_meaning k (length gs)
 
 -- the answer to a list and gains
 abbrev pub PartsAnswer : List (List ℕ) → List (List ℕ) → Result Codeword Failure → Type 0
-PartsAnswer list gains = Reads Unsigneds list (λ vs. Reads Signeds gains (λ gs. FindsWord (listed (length gs) vs) gs))
+PartsAnswer list gains = ReadsBoth Unsigneds list Signeds gains (λ vs gs. FindsWord (listed (length gs) vs) gs)
 
 -- the index of the first slash
 abbrev pub first_slash : List (List ℕ) → Option ℕ

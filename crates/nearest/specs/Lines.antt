@@ -6,7 +6,7 @@ use Rattle.finders.specs.PointFinders.{PointFit, find_answer, find_place}
 use Rattle.tasks.specs.declared.failure.Failure.{Failure}
 use Rattle.tasks.specs.declared.failure.Failure.TheVariants.{Refused, Unreadable}
 use Rattle.tasks.specs.Lines.{AnswersByName}
-use Rattle.tasks.specs.Numbers.{WritesUnsigned, Signeds, Reads}
+use Rattle.tasks.specs.Numbers.{WritesUnsigned, Signeds, ReadsBoth}
 use Rattle.nearest.specs.declared.found.Nearest.{Nearest}
 use Rattle.nearest.specs.declared.sets.Lattice.{Lattice}
 use Rattle.nearest.specs.Sets.{named, meaning_of}
@@ -27,7 +27,7 @@ Finds M rs q r = Shows (find_answer M rs q rs) (find_place M rs q rs) r
 -- the answer to a step and readings
 abbrev pub Asks : Lattice → List (List ℕ) → Result Nearest Failure → Type 0
 Asks l [] r = r ≡ Err Unreadable
-Asks l (step ∷ ws) r = Reads WritesUnsigned step (λ q. Reads Signeds ws (λ rs. Finds (meaning_of l (length rs)) rs q)) r
+Asks l (step ∷ ws) r = ReadsBoth WritesUnsigned step Signeds ws (λ q rs. Finds (meaning_of l (length rs)) rs q) r
 
 -- the answer to the words of a line: the name of a set, a step, readings
 abbrev pub Answers : List (List ℕ) → Result Nearest Failure → Type 0

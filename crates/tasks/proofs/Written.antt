@@ -8,7 +8,7 @@ use Rattle.tasks.specs.Lines.{texts}
 use Rattle.tasks.specs.declared.failure.Failure.{Failure}
 use Rattle.tasks.specs.declared.failure.Failure.TheVariants.{Refused, Unreadable, Memory}
 use Rattle.tasks.specs.Failures.{UnlessMemory}
-use Rattle.tasks.specs.Numbers.{WritesSigned, WritesUnsigned, Unwritten, Reads, Parses}
+use Rattle.tasks.specs.Numbers.{WritesSigned, WritesUnsigned, Unwritten, Reads, ReadsBoth, Parses}
 
 -- ---- word by word
 
@@ -23,6 +23,9 @@ reads_nothing x Then none = record { unwritten = λ _. refl; written = λ n w. a
 
 reads_written : {X N T : Type 0} {Writes : X → N → Type 0} (x : X) (Then : N → Result T Failure → Type 0) → ((m n : N) → Writes x m → Writes x n → m ≡ n) → (n : N) (r : Result T Failure) → Writes x n → Then n r → Reads Writes x Then r
 reads_written x Then same n r w t = record { unwritten = λ none. absurd (none n w); written = λ m v. subst (λ k. Then k r) (same n m w v) t }
+
+both_written : {X Y M N T : Type 0} {Writes : X → M → Type 0} {WritesToo : Y → N → Type 0} (x : X) (y : Y) (Then : M → N → Result T Failure → Type 0) → ((l m : M) → Writes x l → Writes x m → l ≡ m) → (m : M) (r : Result T Failure) → Writes x m → Reads WritesToo y (Then m) r → ReadsBoth Writes x WritesToo y Then r
+both_written x y Then same m r w h = record { first_unwritten = λ none. absurd (none m w); second_unwritten = h.unwritten; written = λ l n v k. subst (λ j. Then j n r) (same m l w v) (h.written n k) }
 
 -- ---- by what a parse of a word gives
 
@@ -68,10 +71,6 @@ module _ {N E : Type 0} {Gives : List ℕ → Result N E → Type 0} {Writes : L
   some_refused (v ∷ ws) (suc i, w, here, at, h) (x ∷ xs) k = some_refused ws (i, w, omega arith, at, h) xs k.1
 
   module _ {T : Type 0} where
-    -- a word was read, and what follows
-    pub read_word : (w : List ℕ) (Then : N → Result T Failure → Type 0) (x : N) (r : Result T Failure) → Gives w (Ok x) → Then x r → Reads Writes w Then r
-    read_word w Then x r g t = reads_written w Then (p.same w) x r (p.taken w x g) t
-
     -- words were read, and what follows
     pub read_words : (ws : List (List ℕ)) (Then : List N → Result T Failure → Type 0) (xs : List N) (r : Result T Failure) → AllZip (λ w x. Gives w (Ok x)) ws xs → Then xs r → Reads (AllZip Writes) ws Then r
     read_words ws Then xs r g t = reads_written ws Then (each_same ws) xs r (each_taken ws xs g) t
@@ -81,3 +80,16 @@ module _ {N E : Type 0} {Gives : List ℕ → Result N E → Type 0} {Writes : L
     not_read ws Then (Refused e) h = absurd h
     not_read ws Then Unreadable h = reads_nothing ws Then (some_refused ws h)
     not_read ws Then (Memory _) h = h
+
+  -- the same, where something else is read behind it
+  module _ {Y M T : Type 0} (WritesToo : Y → M → Type 0) (y : Y) where
+    pub read_word_first : (w : List ℕ) (Then : N → M → Result T Failure → Type 0) (x : N) (r : Result T Failure) → Gives w (Ok x) → Reads WritesToo y (Then x) r → ReadsBoth Writes w WritesToo y Then r
+    read_word_first w Then x r g h = both_written w y Then (p.same w) x r (p.taken w x g) h
+
+    pub read_words_first : (ws : List (List ℕ)) (Then : List N → M → Result T Failure → Type 0) (xs : List N) (r : Result T Failure) → AllZip (λ w x. Gives w (Ok x)) ws xs → Reads WritesToo y (Then xs) r → ReadsBoth (AllZip Writes) ws WritesToo y Then r
+    read_words_first ws Then xs r g h = both_written ws y Then (each_same ws) xs r (each_taken ws xs g) h
+
+    pub not_read_first : (ws : List (List ℕ)) (Then : List N → M → Result T Failure → Type 0) (e : Failure) → Parses Gives ws (Err e) → UnlessMemory (Err e) (ReadsBoth (AllZip Writes) ws WritesToo y Then)
+    not_read_first ws Then (Refused e) h = absurd h
+    not_read_first ws Then Unreadable h = record { first_unwritten = λ _. refl; second_unwritten = λ _. refl; written = λ xs m w _. absurd (some_refused ws h xs w) }
+    not_read_first ws Then (Memory _) h = h

@@ -35,6 +35,12 @@ pub record Reads {X N T : Type 0} (Writes : X → N → Type 0) (x : X) (Then : 
   pub unwritten : Unwritten Writes x → r ≡ Err Unreadable
   pub written : (n : N) → Writes x n → Then n r
 
+-- r answers x and y: by what Then says of what they write, or as `Unreadable` where one of them writes nothing
+pub record ReadsBoth {X Y M N T : Type 0} (Writes : X → M → Type 0) (x : X) (WritesToo : Y → N → Type 0) (y : Y) (Then : M → N → Result T Failure → Type 0) (r : Result T Failure) : Type 0 where
+  pub first_unwritten : Unwritten Writes x → r ≡ Err Unreadable
+  pub second_unwritten : Unwritten WritesToo y → r ≡ Err Unreadable
+  pub written : (m : M) (n : N) → Writes x m → WritesToo y n → Then m n r
+
 -- what is made of words by a parse that gives for a word what Gives says: a number for each, or `Unreadable` where one is refused
 abbrev pub Parses : {N E : Type 0} → (List ℕ → Result N E → Type 0) → List (List ℕ) → Result (Vec N Global) Failure → Type 0
 Parses Gives ws (Ok v) = AllZip (λ w x. Gives w (Ok x)) ws (vec_items v)

@@ -5,7 +5,7 @@ use Rattle.codes.specs.Listed.{listed}
 use Rattle.tasks.specs.Numbers.{Reads, Signeds}
 use Rattle.tasks.specs.declared.failure.Failure.{Failure}
 use Rattle.tasks.proofs.Unless.{unless_at_all, unless_weaker}
-use Rattle.tasks.proofs.Written.{signed, unsigned, read_words, not_read}
+use Rattle.tasks.proofs.Written.{signed, unsigned, read_words, read_words_first, not_read, not_read_first}
 use Rattle.codewords.specs.declared.found.Codeword.{Codeword}
 use Rattle.codewords.specs.Found.{told}
 use Rattle.codewords.specs.Lines.{FindsWord, PartsAnswer}
@@ -22,7 +22,7 @@ returns-in_err-list c =
     let list = texts c.args.list.now in
     let gains = texts c.args.gains.now in
     let p = err_from_is_err_and c.from_residual.result c.from_residual.ensures.1 in
-    rw (p.1, p.2) (not_read unsigned list (Gains_in gains) c.in_err-list.field-0.0 c.in_err-list.ensures.reads_the_numbers)
+    rw (p.1, p.2) (not_read_first unsigned Signeds gains list Finds_in c.in_err-list.field-0.0 c.in_err-list.ensures.reads_the_numbers)
 
 pub returns-in_err-gains : goal.returns-in_err-gains
 returns-in_err-gains c =
@@ -31,7 +31,7 @@ returns-in_err-gains c =
     let vs = c.in_ok-list.list.items in
     let e = c.in_err-gains.field-0.0 in
     let p = err_from_is_err_and c.from_residual-in_err-gains.result c.from_residual-in_err-gains.ensures.1 in
-    rw (p.1, p.2) (unless_weaker (Err e) (Gains_in gains vs) (PartsAnswer list gains) (λ r. read_words unsigned list (Gains_in gains) vs r c.in_ok-list.ensures.reads_the_numbers) (not_read signed gains (Finds_in vs) e c.in_err-gains.ensures.reads_the_numbers))
+    rw (p.1, p.2) (unless_weaker (Err e) (Gains_in gains vs) (PartsAnswer list gains) (λ r. read_words_first unsigned Signeds gains list Finds_in vs r c.in_ok-list.ensures.reads_the_numbers) (not_read signed gains (Finds_in vs) e c.in_err-gains.ensures.reads_the_numbers))
 
 pub returns : goal.returns
 returns c =
@@ -40,5 +40,5 @@ returns c =
     let vs = c.deref.result.now in
     let found = c.told.ensures.tells_the_word_or_the_refusal ∙ ap told c.find_listed.ensures.answers_the_pick_and_its_correlation in
     unless_at_all c.told.result (PartsAnswer list gains)
-    (read_words unsigned list (Gains_in gains) vs c.told.result (rw c.deref.ensures.value c.in_ok-list.ensures.reads_the_numbers)
+    (read_words_first unsigned Signeds gains list Finds_in vs c.told.result (rw c.deref.ensures.value c.in_ok-list.ensures.reads_the_numbers)
     (read_words signed gains (Finds_in vs) c.deref-2.result.now c.told.result (rw c.deref-2.ensures.value c.in_ok-gains.ensures.reads_the_numbers) found))
