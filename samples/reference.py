@@ -1,7 +1,7 @@
 #!/usr/bin/env python3
-"""Works out what the programs `nearest` and `codewords` should print for the tasks on standard input, independently of them:
+"""Works out what the program `nearest` should print for the tasks on standard input, independently of it:
 
-    for p in nearest codewords; do python3 samples/reference.py < crates/$p/stdin | diff - crates/$p/stdout; done
+    python3 samples/reference.py < crates/nearest/stdin | diff - crates/nearest/stdout
 
 For groups of up to four cells it also tries every neighbouring point, and for codes of up to ten cells, and for all listed and
 Reed-Muller words, every word. No part of the gate."""

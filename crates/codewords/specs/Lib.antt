@@ -1,4 +1,3 @@
 pub mod Sets
 pub mod Found
 pub mod Lines
-pub mod Worked

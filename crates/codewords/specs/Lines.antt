@@ -1,4 +1,4 @@
--- What the words of a line are answered.
+-- What the words behind the name of a task are answered.
 use Rattle.std.specs.Prelude.{◌≡◌, ℕ, ◌+◌, List, length, take, drop, position, ℤ, Err, codes, Option, Result, MatchOption}
 use Rattle.std.specs.Str.{bytes_eq as same_text}
 use Rattle.finders.specs.Meanings.{Meaning}
@@ -6,16 +6,13 @@ use Rattle.finders.specs.WordFinders.{WordFit, find_answer as find_word}
 use Rattle.codes.specs.Listed.{listed}
 use Rattle.tasks.specs.declared.failure.Failure.{Failure}
 use Rattle.tasks.specs.declared.failure.Failure.TheVariants.{Unreadable}
-use Rattle.tasks.specs.Lines.{AnswersByName}
 use Rattle.tasks.specs.Numbers.{Signeds, Unsigneds, Reads, ReadsBoth}
 use Rattle.codewords.specs.declared.found.Codeword.{Codeword}
 use Rattle.codewords.specs.declared.names.Task.{Task}
 use Rattle.codewords.specs.declared.names.Task.TheVariants.{Codewords, Listed}
 use Rattle.codewords.specs.declared.words.Code.{Code}
 use Rattle.codewords.specs.Found.{told}
-use Rattle.codewords.specs.Sets.{named, code_meaning}
-
--- ---- words of codes
+use Rattle.codewords.specs.Sets.{code_meaning}
 
 -- the answer to gains, by what `find` answers
 abbrev pub FindsWord : Meaning WordFit → List ℤ → Result Codeword Failure → Type 0
@@ -37,13 +34,7 @@ first_slash = position (λ w. same_text w (codes "/"))
 abbrev pub ListedAnswer : List (List ℕ) → Result Codeword Failure → Type 0
 ListedAnswer ws r = MatchOption (first_slash ws) (r ≡ Err Unreadable) (λ i. PartsAnswer (take i ws) (drop (i + 1) ws) r)
 
--- ---- lines
-
 -- the answer to the words behind the name of a task
 abbrev pub TaskAnswer : Task → List (List ℕ) → Result Codeword Failure → Type 0
 TaskAnswer (Codewords k) ws r = CodeAnswer k ws r
 TaskAnswer Listed ws r = ListedAnswer ws r
-
--- the answer to the words of a line: the name of a task, and what it asks for
-abbrev pub Answers : List (List ℕ) → Result Codeword Failure → Type 0
-Answers = AnswersByName (λ name t. t ≡ named name) TaskAnswer

@@ -1,13 +1,12 @@
-ghost use Rattle.std.specs.Prelude.{◌≡◌, IfOk, Some, string_bytes};
+ghost use Rattle.std.specs.Prelude.{◌≡◌};
 ghost use Rattle.tasks.specs.Failures.{UnlessMemory};
-ghost use Rattle.tasks.specs.Lines.{texts, Responds};
-ghost use Rattle.codewords.specs.Found.{codeword_text};
-ghost use Rattle.codewords.specs.Lines.{first_slash, CodeAnswer, PartsAnswer, ListedAnswer, TaskAnswer, Answers};
+ghost use Rattle.tasks.specs.Lines.{texts};
+ghost use Rattle.codewords.specs.Lines.{first_slash, CodeAnswer, PartsAnswer, ListedAnswer, TaskAnswer};
 
 use super::found::{Codeword, told};
 use super::names::Task;
 use super::words::{Code, find_listed};
-use std::alloc::{AllocError, Global};
+use std::alloc::Global;
 use tasks::failure::Failure;
 use tasks::numbers::numbers;
 
@@ -45,18 +44,11 @@ fn listed_asked(heap: Global, words: &[&str]) -> Result<Codeword, Failure>
 }
 
 // What the words behind the name of a task are answered: a match, since each of the two kinds of task takes other words.
-fn asked(heap: Global, task: Task, words: &[&str]) -> Result<Codeword, Failure>
-    ensures { UnlessMemory result (TaskAnswer task (texts words.now)) }
+pub fn asked(heap: Global, task: Task, words: &[&str]) -> Result<Codeword, Failure>
+    ensures answers_the_task { UnlessMemory result (TaskAnswer task (texts words.now)) }
 {
     match task {
         Task::Codewords(code) => codewords_asked(heap, code, words),
         Task::Listed => listed_asked(heap, words),
     }
-}
-
-// The line that is printed for a line that was read.
-pub fn respond(heap: Global, line: &str) -> Result<String, AllocError>
-    ensures answers_the_words_of_the_line { IfOk result (λ s. Responds Answers (λ found. Some (codeword_text found)) line.now (string_bytes s)) }
-{
-    tasks::lines::respond(heap, line, |task, words| asked(heap, task, words))
 }

@@ -1,3 +1,4 @@
 pub mod Sets
+pub mod Names
 pub mod Found
 pub mod Lines

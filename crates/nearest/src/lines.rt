@@ -1,11 +1,12 @@
 ghost use Rattle.std.specs.Prelude.{length, IfOk, Some, string_bytes};
 ghost use Rattle.tasks.specs.Failures.{UnlessMemory};
 ghost use Rattle.tasks.specs.Lines.{texts, Responds};
-ghost use Rattle.nearest.specs.Found.{nearest_text};
-ghost use Rattle.nearest.specs.Lines.{Finds, Asks, Answers};
+ghost use Rattle.nearest.specs.Found.{found_text};
+ghost use Rattle.nearest.specs.Lines.{Finds, Asks, TaskAnswer, Answers};
 ghost use Rattle.nearest.specs.Sets.{meaning_of};
 
-use super::found::Nearest;
+use super::found::{Found, Nearest};
+use super::names::Task;
 use super::sets::Lattice;
 use std::alloc::{AllocError, Global};
 use tasks::failure::Failure;
@@ -21,7 +22,7 @@ fn nearest(heap: Global, lattice: Lattice, step: u32, readings: &[i32]) -> Resul
 }
 
 // What a step and readings are answered.
-fn asked(heap: Global, lattice: Lattice, words: &[&str]) -> Result<Nearest, Failure>
+fn point_asked(heap: Global, lattice: Lattice, words: &[&str]) -> Result<Nearest, Failure>
     ensures { UnlessMemory result (Asks lattice (texts words.now)) }
 {
     let (step, rest) = words.split_first().ok_or(Failure::Unreadable)?;
@@ -29,9 +30,19 @@ fn asked(heap: Global, lattice: Lattice, words: &[&str]) -> Result<Nearest, Fail
     nearest(heap, lattice, step, &numbers::<i32>(heap, rest)?)
 }
 
+// What the words behind the name of a task are answered: a match, since points and words are found by other calls.
+fn asked(heap: Global, task: Task, words: &[&str]) -> Result<Found, Failure>
+    ensures { UnlessMemory result (TaskAnswer task (texts words.now)) }
+{
+    match task {
+        Task::Points(lattice) => Ok(Found::Point(point_asked(heap, lattice, words)?)),
+        Task::Words(task) => Ok(Found::Word(codewords::lines::asked(heap, task, words)?)),
+    }
+}
+
 // The line that is printed for a line that was read.
 pub fn respond(heap: Global, line: &str) -> Result<String, AllocError>
-    ensures answers_the_words_of_the_line { IfOk result (λ s. Responds Answers (λ nearest. Some (nearest_text nearest)) line.now (string_bytes s)) }
+    ensures answers_the_words_of_the_line { IfOk result (λ s. Responds Answers (λ found. Some (found_text found)) line.now (string_bytes s)) }
 {
-    tasks::lines::respond(heap, line, |lattice, words| asked(heap, lattice, words))
+    tasks::lines::respond(heap, line, |task, words| asked(heap, task, words))
 }

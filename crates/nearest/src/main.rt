@@ -1,14 +1,14 @@
-// Reads tasks, one a line, and prints the nearest point of each.
+// Reads tasks, one a line, and prints the nearest point or the best word of each.
 #![tactic(auto)]
 
 mod found;
 mod lines;
+mod names;
 mod sets;
 
 use lines::respond;
 use std::io;
 
-// As that of `codewords`: shared, it would be one call that is handed the runtime, the heap and `respond`, and no shorter.
 fn main(rt: HostRuntime) -> anyhow::Result<()> {
     let heap = rt.alloc();
     for line in rt.lines(heap) {

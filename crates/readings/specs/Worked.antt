@@ -1,9 +1,12 @@
--- Readings worked out by hand, all at the step 10.
+-- Readings and gains worked out by hand; the readings all at the step 10.
 use Rattle.std.specs.Prelude.{◌≡◌, ℕ, List, [], ◌∷◌, length, ℤ, pos, negsuc, Ok}
 use Rattle.std.specs.List.{AllByRecursion}
 use Rattle.integers.specs.Nearest.{nearest}
 use Rattle.finders.specs.PointFinders.{find_answer, find_place}
 use Rattle.finders.specs.Rounding.{turned}
+use Rattle.finders.specs.WordFinders.{find_answer as find_word}
+use Rattle.codes.specs.EvenWeight.{even_weight}
+use Rattle.codes.specs.ReedMuller.{reed_muller}
 use Rattle.lattices.specs.LatticeD.{lattice_d}
 
 pub data Worked : Type 0 where
@@ -13,6 +16,10 @@ pub data Worked : Type 0 where
   turns : ℤ → ℤ → Worked
   -- readings, and the point of D and the squared distance that are found
   finds_d : List ℤ → List ℤ → ℕ → Worked
+  -- gains, and the word of even weight and the correlation that are found
+  finds_even : List ℤ → ℕ → ℤ → Worked
+  -- m, gains, and the word of the Reed-Muller code of 2^m cells and the correlation that are found
+  finds_reed_muller : ℕ → List ℤ → ℕ → ℤ → Worked
 
 abbrev pub step : ℕ
 step = 10
@@ -22,6 +29,8 @@ abbrev pub Holds : Worked → Type 0
 Holds (rounds r x) = nearest step r ≡ x
 Holds (turns r x) = turned step r ≡ x
 Holds (finds_d rs xs d) = (find_answer (lattice_d (length rs)) rs step rs ≡ Ok d) × (find_place (lattice_d (length rs)) rs step rs ≡ xs)
+Holds (finds_even gs w c) = find_word (even_weight (length gs)) gs ≡ Ok (w, c)
+Holds (finds_reed_muller m gs w c) = find_word (reed_muller m) gs ≡ Ok (w, c)
 
 -- negsuc n is -(n + 1)
 abbrev pub worked : List Worked
@@ -34,6 +43,8 @@ worked =
     ∷ turns (negsuc 9) (negsuc 1)
     ∷ turns (pos 0) (pos 1)
     ∷ finds_d (pos 10 ∷ pos 0 ∷ pos 0 ∷ pos 0 ∷ []) (pos 2 ∷ pos 0 ∷ pos 0 ∷ pos 0 ∷ []) 100
+    ∷ finds_even (pos 0 ∷ pos 0 ∷ negsuc 3 ∷ pos 1 ∷ []) 5 (pos 5)
+    ∷ finds_reed_muller 2 (pos 1 ∷ pos 1 ∷ pos 1 ∷ negsuc 0 ∷ []) 0 (pos 2)
     ∷ []
 
 abbrev pub AllHold : Type 0

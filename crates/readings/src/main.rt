@@ -3,8 +3,11 @@
 
 mod worked;
 
+use codes::even_weight::EvenWeight;
+use codes::reed_muller::ReedMuller;
 use finders::points::PointFinder;
 use finders::rounding::round;
+use finders::words::WordFinder;
 use lattices::lattice_d::LatticeD;
 use std::io;
 use worked::all_worked_readings_hold;
@@ -20,6 +23,18 @@ fn print_point(rt: &impl Print, readings: &[i32; 4]) -> io::Result<()> {
     }
 }
 
+fn print_word(
+    rt: &impl Print,
+    name: &str,
+    code: &impl WordFinder,
+    gains: &[i32; 4],
+) -> io::Result<()> {
+    match code.find(gains) {
+        Ok((word, correlation)) => println!(rt; "{name} of {gains:?} is {word} at {correlation}"),
+        Err(refusal) => println!(rt; "{name} of {gains:?} is {refusal}"),
+    }
+}
+
 fn main(rt: HostRuntime) -> io::Result<()> {
     all_worked_readings_hold();
     for reading in [15, -15, 5, 16] {
@@ -30,5 +45,7 @@ fn main(rt: HostRuntime) -> io::Result<()> {
         let number = round(reading, STEP).other_way();
         println!(rt; "{reading} the other way is {number}")?;
     }
-    print_point(&rt, &[10, 0, 0, 0])
+    print_point(&rt, &[10, 0, 0, 0])?;
+    print_word(&rt, "EvenWeight", &EvenWeight::new(4), &[0, 0, -4, 1])?;
+    print_word(&rt, "ReedMuller 2", &ReedMuller::new(2), &[1, 1, 1, -1])
 }

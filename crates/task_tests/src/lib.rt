@@ -1,4 +1,4 @@
-// Tests of what the programs share, run on examples.
+// Tests of what tasks in text have in common, run on examples.
 #![tactic(auto)]
 
 #[cfg(test)]

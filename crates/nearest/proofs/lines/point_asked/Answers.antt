@@ -9,7 +9,7 @@ use Rattle.nearest.specs.declared.found.Nearest.{Nearest}
 use Rattle.nearest.specs.declared.sets.Lattice.{Lattice}
 use Rattle.nearest.specs.Lines.{Finds, Asks}
 use Rattle.nearest.specs.Sets.{meaning_of}
-use Rattle.nearest.proofs.lines.asked.Goals as goal
+use Rattle.nearest.proofs.lines.point_asked.Goals as goal
 
 abbrev Finds_at : Lattice → ℕ → List ℤ → Result Nearest Failure → Type 0
 Finds_at l q rs = Finds (meaning_of l (length rs)) rs q
