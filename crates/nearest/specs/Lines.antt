@@ -36,7 +36,7 @@ abbrev pub Asks : Lattice → List (List ℕ) → Result Nearest Failure → Typ
 Asks l [] r = r ≡ Err Unreadable
 Asks l (step ∷ ws) r = ReadsBoth WritesUnsigned step Signeds ws (λ q rs. Finds (meaning_of l (length rs)) rs q) r
 
--- P holds of r as a result of the kind that f makes it
+-- r is a result that P holds of, with what it found turned into `Found` by f
 abbrev pub As : {T : Type 0} → (T → Found) → (Result T Failure → Type 0) → Result Found Failure → Type 0
 As {T} f P r = (s : Result T Failure) × P s × (r ≡ result_map_both f (λ e. e) s)
 
