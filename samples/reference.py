@@ -5,7 +5,9 @@
 
 For groups of up to four cells it also tries every neighbouring point, and for codes of up to ten cells, and for all listed and
 Reed-Muller words, every word. No part of the gate."""
+import functools
 import itertools
+import operator
 import re
 import sys
 
@@ -108,6 +110,17 @@ def listed(words, gains):
     return words[found.index(max(found))], words
 
 
+def sums(words):
+    return [functools.reduce(operator.xor, (w for b, w in enumerate(words) if j >> b & 1), 0) for j in range(2 ** len(words))]
+
+
+def glued_even(words, gains):
+    turned = [[gain * (+1, -1)[digit] for gain, digit in zip(gains, cells(p, len(gains)))] for p in sums(words)]
+    picks = [p ^ even(below)[0] for p, below in zip(sums(words), turned)]
+    found = [correlation(pick, gains) for pick in picks]
+    return picks[found.index(max(found))], [p ^ w for p in sums(words) for w in even(gains)[1]]
+
+
 def word_answer(gains, word, words):
     assert all(correlation(w, gains) <= correlation(word, gains) for w in words), gains
     assert not words or word in words, gains
@@ -127,7 +140,7 @@ def code_answer(name, words):
     return word_answer(gains, *finder(gains))
 
 
-def listed_answer(words):
+def listing_answer(name, words):
     if "/" not in words:
         return "unreadable"
     i = words.index("/")
@@ -137,13 +150,16 @@ def listed_answer(words):
         return "unreadable"
     if not 1 <= len(gains) <= 32:
         return "refused 1"
-    if not 1 <= len(listing) <= 64:
+    if name == "listed" and not 1 <= len(listing) <= 64:
         return "refused 9"
+    if name == "glued-even" and len(listing) > 7:
+        return "refused 5"
     if any(w >= 2 ** len(gains) for w in listing):
         return "refused 6"
     if any(abs(g) > 2**30 for g in gains):
         return "refused 3"
-    return word_answer(gains, *listed(listing, gains))
+    finder = {"listed": listed, "glued-even": glued_even}[name]
+    return word_answer(gains, *finder(listing, gains))
 
 
 # ---- lines
@@ -169,8 +185,8 @@ def answer(line):
         return point_answer(name, words)
     if name in ("universe", "even", "reed-muller"):
         return code_answer(name, words)
-    if name == "listed":
-        return listed_answer(words)
+    if name in ("listed", "glued-even"):
+        return listing_answer(name, words)
     return "refused 14"
 
 

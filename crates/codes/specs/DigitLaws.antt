@@ -6,6 +6,7 @@ use Rattle.std.specs.Int.Count.{ones_step}
 use Rattle.std.specs.List.{AllByRecursion}
 use Rattle.finders.specs.Words.{digit, signed, correlation}
 use Rattle.finders.proofs.Correlation.{half_above}
+use Rattle.finders.proofs.Digits.{first_digit, other_digits}
 use Rattle.codes.specs.Digits.{word, reversed}
 
 abbrev pub Digit : ℕ → Type 0
@@ -26,13 +27,6 @@ word_below (d ∷ ds) h = let a = h.0 in let b = word_below ds h.1 in rw (pow-su
 pub word_append : (ds es : List ℕ) → word (ds ++ es) ≡ word es * 2 ^ length ds + word ds
 word_append [] es = omega arith
 word_append (d ∷ ds) es = rw (word_append ds es, pow-succ' 2 (length ds)) (omega (arith, mul_left_comm (word es) 2 (2 ^ length ds)))
-
--- the first digit, and the others
-pub first_digit : (d w : ℕ) → Digit d → (d + 2 * w) % 2 ≡ d
-first_digit d w h = omega arith
-
-pub other_digits : (d w : ℕ) → Digit d → (d + 2 * w) / 2 ≡ w
-other_digits d w h = omega arith
 
 pub correlation_cons : (d w : ℕ) (g : ℤ) (gs : List ℤ) → Digit d → correlation (d + 2 * w) (g ∷ gs) ≡ signed d g +ℤ correlation w gs
 correlation_cons d w g gs h = rw (first_digit d w h, other_digits d w h)

@@ -24,7 +24,8 @@ use Rattle.codes.specs.Universe.{sign, signs}
 use Rattle.codes.specs.EvenWeight.{even, weakest, repaired, even_pick, even_weight}
 use Rattle.finders.proofs.Within.{range, within_at}
 use Rattle.codes.specs.CodeLaws.{code_lawful}
-use Rattle.codes.specs.DigitLaws.{Digit, reversed_digit, word_below, correlation_cons, ones_cons, first_digit, other_digits}
+use Rattle.codes.specs.DigitLaws.{Digit, reversed_digit, word_below, correlation_cons, ones_cons}
+use Rattle.finders.proofs.Digits.{first_digit, other_digits}
 use Rattle.codes.specs.SignLaws.{total, sign_digit, signs_digits, signs_below, signed_most, signed_own, correlation_most, correlation_signs}
 
 -- the other digit than a gain's sign takes the gain's size off

@@ -1,21 +1,17 @@
 -- Listed words.
 use Rattle.std.specs.Prelude.{ℕ, Bool, ◌&&◌, List, map, length, ℤ, nat_le, slice_index}
-use Rattle.std.specs.List.{ContainsAt as Has, list_all}
+use Rattle.std.specs.List.{ContainsAt as Has}
 use Rattle.finders.specs.declared.refusals.Refusal.TheVariants.{Width, WordCount, Entry}
 use Rattle.finders.specs.Choice.{first_best, no_less}
 use Rattle.finders.specs.Meanings.{Meaning, fit, unfit_unless}
 use Rattle.finders.specs.Sizes.{in_range}
 use Rattle.finders.specs.WordFinders.{WordFit}
-use Rattle.finders.specs.Words.{fits, correlation}
+use Rattle.finders.specs.Words.{all_fit, correlation}
 use Rattle.codes.specs.Codes.{code_fit}
 
 -- 1 to 64 words
 abbrev pub few : ℕ → Bool
 few k = nat_le 1 k && nat_le k 64
-
--- no word has a digit beyond the width
-abbrev pub as_wide : ℕ → List ℕ → Bool
-as_wide n ws = list_all (fits n) ws
 
 -- the first word with the greatest correlation
 abbrev pub first_listed : List ℕ → List ℤ → ℕ
@@ -28,5 +24,5 @@ abbrev pub listed : ℕ → List ℕ → Meaning WordFit
 listed n ws =
     unfit_unless (in_range n) Width
     (unfit_unless (few (length ws)) WordCount
-    (unfit_unless (as_wide n ws) Entry
+    (unfit_unless (all_fit n ws) Entry
     (fit (listed_fit n ws))))

@@ -1,25 +1,25 @@
 -- The laws of listed words.
-use Rattle.std.specs.Prelude.{◌≡◌, ℕ, ◌^◌, ◌<◌, ◌≤◌, true, List, [], ◌∷◌, map, length, take, ℤ, pos, ◌≤ℤ◌, Ok, Err, Result, nat_le, nat_lt, slice_index_or}
+use Rattle.std.specs.Prelude.{◌≡◌, ℕ, ◌^◌, ◌<◌, ◌≤◌, true, List, [], ◌∷◌, map, length, ℤ, pos, ◌≤ℤ◌, Ok, Err, Result, nat_le, nat_lt, slice_index_or}
 use Rattle.std.specs.List.{ContainsAt as Has, AllByRecursion}
 use Rattle.std.proofs.ByRecursion.{all-has, has_get_or}
-use Rattle.std.proofs.lemmas.List.{length-map, length-take-le, get_or-map}
+use Rattle.std.proofs.lemmas.List.{length-map, get_or-map}
 use Rattle.std.proofs.lemmas.Bool.{and_parts, leb-true, ltb-true}
 use Rattle.finders.specs.declared.refusals.Refusal.{Refusal}
 use Rattle.finders.specs.Choice.{IsFirst, first_best, no_less}
 use Rattle.finders.specs.Sizes.{in_range}
 use Rattle.finders.specs.WordFinders.{WordLaws, Lawful}
-use Rattle.finders.specs.Words.{correlation}
+use Rattle.finders.specs.Words.{all_fit, correlation}
 use Rattle.finders.proofs.Firsts.{first_best_is, best_measured}
 use Rattle.finders.proofs.Scores.{no_less_total, no_less_chain, great_decides}
 use Rattle.codes.specs.declared.listed.table.Table.{Table}
-use Rattle.codes.specs.Listed.{as_wide, first_listed, listed_fit}
-use Rattle.codes.specs.Tables.{listed_in}
+use Rattle.codes.specs.Listed.{first_listed, listed_fit}
+use Rattle.codes.specs.Tables.{words_in, listed_in}
 use Rattle.finders.proofs.Within.{range}
 use Rattle.codes.specs.CodeLaws.{code_laws}
 
-all_below : (n : ℕ) (ws : List ℕ) → as_wide n ws ≡ true → AllByRecursion (λ w. w < 2 ^ n) ws
+all_below : (n : ℕ) (ws : List ℕ) → all_fit n ws ≡ true → AllByRecursion (λ w. w < 2 ^ n) ws
 all_below n [] h = tt
-all_below n (w ∷ ws) h = let p = and_parts (nat_lt w (2 ^ n)) (as_wide n ws) h in (ltb-true w (2 ^ n) p.0, all_below n ws p.1)
+all_below n (w ∷ ws) h = let p = and_parts (nat_lt w (2 ^ n)) (all_fit n ws) h in (ltb-true w (2 ^ n) p.0, all_below n ws p.1)
 
 -- ---- the pick
 
@@ -45,7 +45,7 @@ module _ (ws : List ℕ) (some : 1 ≤ length ws) (gs : List ℤ) where
       let best = correlation (first_listed ws gs) gs in
       (great_decides best (correlation w gs)).0 (all-has (λ v. no_less best (correlation v gs) ≡ true) ws w greatest.1 h)
 
-pub listed_laws : (n : ℕ) (ws : List ℕ) → in_range n ≡ true → 1 ≤ length ws → as_wide n ws ≡ true → WordLaws (listed_fit n ws)
+pub listed_laws : (n : ℕ) (ws : List ℕ) → in_range n ≡ true → 1 ≤ length ws → all_fit n ws ≡ true → WordLaws (listed_fit n ws)
 listed_laws n ws sized some fitting = code_laws n (Has ws) (first_listed ws)
     (λ w. all-has (λ v. v < 2 ^ n) ws w (all_below n ws fitting))
     (λ gs _ _. first_listed_is_listed ws some gs)
@@ -54,6 +54,6 @@ listed_laws n ws sized some fitting = code_laws n (Has ws) (first_listed ws)
 
 pub listed_lawful : (r : Result Table Refusal) → Lawful (listed_in r)
 listed_lawful (Ok t) =
-    let some = leb-true 1 t.count (and_parts (nat_le 1 t.count) (nat_le t.count 64) t.counted).0 in
-    listed_laws t.width (take t.count t.words) t.sized (rw (length-take-le t.count t.words t.held) some) t.fitting
+    let some = (and_parts (nat_le 1 (length (words_in t))) (nat_le (length (words_in t)) 64) t.counted).0 in
+    listed_laws t.width (words_in t) t.sized (leb-true 1 (length (words_in t)) some) t.fitting
 listed_lawful (Err e) = tt

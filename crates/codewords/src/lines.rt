@@ -1,11 +1,11 @@
 ghost use Rattle.std.specs.Prelude.{◌≡◌};
 ghost use Rattle.tasks.specs.Failures.{UnlessMemory};
 ghost use Rattle.tasks.specs.Lines.{texts};
-ghost use Rattle.codewords.specs.Lines.{first_slash, CodeAnswer, PartsAnswer, ListedAnswer, TaskAnswer};
+ghost use Rattle.codewords.specs.Lines.{first_slash, CodeAnswer, PartsAnswer, ListingAnswer, TaskAnswer};
 
 use super::found::{Codeword, told};
 use super::names::Task;
-use super::words::{Code, find_listed};
+use super::words::{Code, Listing};
 use std::alloc::Global;
 use tasks::failure::Failure;
 use tasks::numbers::numbers;
@@ -26,21 +26,26 @@ fn slash(words: &[&str]) -> Option<usize>
 }
 
 // What a list of words and gains are answered.
-fn parts_asked(heap: Global, list: &[&str], gains: &[&str]) -> Result<Codeword, Failure>
-    ensures { UnlessMemory result (PartsAnswer (texts list.now) (texts gains.now)) }
+fn parts_asked(
+    heap: Global,
+    listing: Listing,
+    list: &[&str],
+    gains: &[&str],
+) -> Result<Codeword, Failure>
+    ensures { UnlessMemory result (PartsAnswer listing (texts list.now) (texts gains.now)) }
 {
     let list = numbers::<u32>(heap, list)?;
     let gains = numbers::<i32>(heap, gains)?;
-    told(find_listed(&list, &gains))
+    told(listing.find(&list, &gains))
 }
 
 // What a list of words, a slash and gains are answered.
 #[tactic(auto, using(crate::proofs::Slashes::parted))]
-fn listed_asked(heap: Global, words: &[&str]) -> Result<Codeword, Failure>
-    ensures { UnlessMemory result (ListedAnswer (texts words.now)) }
+fn listing_asked(heap: Global, listing: Listing, words: &[&str]) -> Result<Codeword, Failure>
+    ensures { UnlessMemory result (ListingAnswer listing (texts words.now)) }
 {
     let slash = slash(words).ok_or(Failure::Unreadable)?;
-    parts_asked(heap, &words[..slash], &words[slash + 1..])
+    parts_asked(heap, listing, &words[..slash], &words[slash + 1..])
 }
 
 // What the words behind the name of a task are answered: a match, since each of the two kinds of task takes other words.
@@ -49,6 +54,6 @@ pub fn asked(heap: Global, task: Task, words: &[&str]) -> Result<Codeword, Failu
 {
     match task {
         Task::Codewords(code) => codewords_asked(heap, code, words),
-        Task::Listed => listed_asked(heap, words),
+        Task::Listing(listing) => listing_asked(heap, listing, words),
     }
 }

@@ -1,15 +1,15 @@
 ghost use Rattle.std.specs.Prelude.{◌≡◌};
 ghost use Rattle.codewords.specs.Sets.{named};
 
-use super::words::Code;
+use super::words::{Code, Listing};
 use finders::refusals::Refusal;
 use std::str::FromStr;
 
-// What the first word of a line asks for: a word of a code, or one of the words that the line lists.
+// What the first word of a line asks for: a word of a code, or of what the line makes with the words that it lists.
 #[derive(Clone, Copy)]
 pub enum Task {
     Codewords(Code),
-    Listed,
+    Listing(Listing),
 }
 
 impl FromStr for Task {
@@ -22,7 +22,8 @@ impl FromStr for Task {
             "universe" => Ok(Task::Codewords(Code::Universe)),
             "even" => Ok(Task::Codewords(Code::EvenWeight)),
             "reed-muller" => Ok(Task::Codewords(Code::ReedMuller)),
-            "listed" => Ok(Task::Listed),
+            "listed" => Ok(Task::Listing(Listing::Listed)),
+            "glued-even" => Ok(Task::Listing(Listing::GluedEven)),
             _ => Err(Refusal::Kind),
         }
     }

@@ -1,8 +1,8 @@
 ghost use Rattle.std.specs.Prelude.{◌≡◌, length};
 ghost use Rattle.finders.specs.WordFinders.{find_answer, Outcome};
-ghost use Rattle.codes.specs.Listed.{listed};
-ghost use Rattle.codewords.specs.Sets.{m_of, code_meaning};
+ghost use Rattle.codewords.specs.Sets.{m_of, code_meaning, listing_meaning};
 
+use code_layers::glue::Glue;
 use codes::even_weight::EvenWeight;
 use codes::listed::Listed;
 use codes::reed_muller::ReedMuller;
@@ -49,10 +49,22 @@ impl Code {
     }
 }
 
-// The best of listed words and its correlation, as many cells as gains.
-pub fn find_listed(words: &[u32], gains: &[i32]) -> Result<(u32, i64), Refusal>
-    ensures answers_the_pick_and_its_correlation { result ≡ find_answer (listed (length gains.now) words.now) gains.now }
-    ensures gives_the_best_listed_word { Outcome (listed (length gains.now) words.now) gains.now result }
-{
-    Listed::new(gains.len(), words).find(gains)
+// What a task can make with the words that it lists: the code of these words, or the words of even weight, glued with them.
+#[derive(Clone, Copy)]
+pub enum Listing {
+    Listed,
+    GluedEven,
+}
+
+impl Listing {
+    // The best word and its correlation, as many cells as gains.
+    pub fn find(self, words: &[u32], gains: &[i32]) -> Result<(u32, i64), Refusal>
+        ensures answers_the_pick_and_its_correlation { result ≡ find_answer (listing_meaning self (length gains.now) words.now) gains.now }
+        ensures gives_the_best_member { Outcome (listing_meaning self (length gains.now) words.now) gains.now result }
+    {
+        match self {
+            Listing::Listed => Listed::new(gains.len(), words).find(gains),
+            Listing::GluedEven => Glue::new(EvenWeight::new(gains.len()), words).find(gains),
+        }
+    }
 }

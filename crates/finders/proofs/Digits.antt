@@ -1,9 +1,16 @@
--- A word's digits beyond so many cells.
-use Rattle.std.proofs.Common.{◌≡◌, ℕ, ◌/◌, ◌^◌, ◌<◌, ◌≤◌, false, not, eqb, sym, ap, inl, inr, arith, pow_pos, pow_mono}
+-- The first digit of a word, and digits beyond so many cells.
+use Rattle.std.proofs.Common.{◌≡◌, ℕ, ◌+◌, ◌*◌, ◌/◌, ◌%◌, ◌^◌, ◌<◌, ◌≤◌, false, not, eqb, sym, ap, inl, inr, arith, pow_pos, pow_mono}
 use native.Mathlib.Nat.{div-eq_of_lt}
 use Rattle.std.proofs.lemmas.Nat.{le-div}
 use Rattle.std.proofs.lemmas.Bool.{cases_lt, lt-ltb, le-ltb, eq-eqb, ne_eqb}
 use Rattle.finders.specs.Words.{fits}
+
+-- the first digit of a word, and the others
+pub first_digit : (d w : ℕ) → d < 2 → (d + 2 * w) % 2 ≡ d
+first_digit d w h = omega arith
+
+pub other_digits : (d w : ℕ) → d < 2 → (d + 2 * w) / 2 ≡ w
+other_digits d w h = omega arith
 
 none_beyond : (w n : ℕ) → eqb (w / 2 ^ n) 0 ≡ fits n w
 none_beyond w n = elim (cases_lt w (2 ^ n)) [

@@ -1,9 +1,9 @@
 -- The index of the first best of a list: what makes it right, and that the choice of the first best finds it.
-use Rattle.std.proofs.Common.{◌≡◌, ℕ, suc, ◌+◌, ◌<◌, ◌≤◌, Bool, true, false, ◌⊎◌, List, [], ◌∷◌, ◌++◌, map, length, get_or, Some, None, Option, MatchOption, Decides, sym, refl, inl, inr, arith}
+use Rattle.std.proofs.Common.{◌≡◌, ℕ, ◌<◌, ◌≤◌, Bool, true, false, ◌⊎◌, List, [], ◌∷◌, ◌++◌, map, length, get_or, Some, None, Option, MatchOption, Decides, sym, refl, inl, inr, arith}
 use Rattle.std.specs.List.{AllByRecursion}
 use Rattle.std.proofs.lemmas.List.{length-map, get_or-map}
 use Rattle.std.proofs.lemmas.Bool.{and_parts, both_ways}
-use Rattle.finders.specs.Choice.{Chosen, numbered, as_good_as, first_best, IsFirst}
+use Rattle.finders.specs.Choice.{Chosen, as_good_as, first_best, IsFirst}
 
 pub all_mapped : {A B : Type 0} (P : B → Type 0) (f : A → B) (xs : List A) → AllByRecursion P (map f xs) → AllByRecursion (λ a. P (f a)) xs
 all_mapped P f [] h = tt
@@ -64,54 +64,51 @@ module _ {A : Type 0} (good : A → A → Bool) where
 no_offer : {X : Type 0} {x : X} {xs : List X} → ◌≡◌ {A = List X} [] (x ∷ xs) → ⊥
 no_offer e = let z : ◌≡◌ {A = ℕ} 0 1 = cc in omega arith
 
-pub map_none : {A B : Type 0} (f : A → B) (xs : List A) → map f xs ≡ [] → xs ≡ []
-map_none f [] e = refl
-map_none f (x ∷ xs) e = absurd (no_offer (sym e))
+-- what is chosen of some candidates is the first of those that measure best: f is what is measured of an element, and c its candidate
+module _ {X C A S : Type 0} (c : X → C) (f : X → A) (score : A → S) (good : A → A → Bool) (Good : S → S → Type 0) (decides : (a b : A) → Decides (good a b) (Good (score a) (score b))) (e : X) where
+  abbrev offer : X → C × S
+  offer x = (c x, score (f x))
 
--- what is chosen of the scores of a list is the index of the first best
-module _ {A S : Type 0} (score : A → S) (good : A → A → Bool) (Good : S → S → Type 0) (decides : (a b : A) → Decides (good a b) (Good (score a) (score b))) (d : A) where
-  abbrev offers : ℕ → List A → List (ℕ × S)
-  offers k xs = numbered k (map score xs)
+  abbrev best : List X → ℕ
+  best xs = first_best good (map f xs)
 
-  abbrev At : ℕ → List A → ℕ × S → Type 0
-  At k xs b = (b.0 ≡ k + first_best good xs) × (first_best good xs < length xs) × (b.1 ≡ score (get_or xs (first_best good xs) d))
+  abbrev At : List X → C × S → Type 0
+  At xs b = (best xs < length xs) × (b ≡ offer (get_or xs (best xs) e))
 
-  no_better : (a : A) (k : ℕ) (xs : List A) → AllByRecursion (λ x. Good (score a) x.1) (offers k xs) → as_good_as good a xs ≡ true
-  no_better a k [] h = refl
-  no_better a k (b ∷ xs) h = rw ((decides a b).1 h.0, no_better a (suc k) xs h.1)
+  no_better : (x : X) (xs : List X) → AllByRecursion (λ o. Good (score (f x)) o.1) (map offer xs) → as_good_as good (f x) (map f xs) ≡ true
+  no_better x [] h = refl
+  no_better x (y ∷ xs) h = rw ((decides (f x) (f y)).1 h.0, no_better x xs h.1)
 
-  -- a is worse than one of the list
-  beaten : (a : A) (k : ℕ) (xs : List A) (es later : List (ℕ × S)) (b : ℕ × S) → offers k xs ≡ es ++ b ∷ later → (Good (score a) b.1 → ⊥) → as_good_as good a xs ≡ true → ⊥
-  beaten a k [] [] later b e n g = no_offer e
-  beaten a k [] (x ∷ es) later b e n g = no_offer e
-  beaten a k (c ∷ xs) [] later b e n g =
-      let h : (k, score c) ≡ b = cc in
-      n (rw (sym h) ((decides a c).0 (and_parts (good a c) (as_good_as good a xs) g).0))
-  beaten a k (c ∷ xs) (x ∷ es) later b e n g =
-      let t : offers (suc k) xs ≡ es ++ b ∷ later = cc in
-      beaten a (suc k) xs es later b t n (and_parts (good a c) (as_good_as good a xs) g).1
+  -- x is worse than one of the list
+  beaten : (x : X) (xs : List X) (es later : List (C × S)) (b : C × S) → map offer xs ≡ es ++ b ∷ later → (Good (score (f x)) b.1 → ⊥) → as_good_as good (f x) (map f xs) ≡ true → ⊥
+  beaten x [] [] later b i n g = no_offer i
+  beaten x [] (o ∷ es) later b i n g = no_offer i
+  beaten x (y ∷ xs) [] later b i n g =
+      let h : offer y ≡ b = cc in
+      n (rw (sym h) ((decides (f x) (f y)).0 (and_parts (good (f x) (f y)) (as_good_as good (f x) (map f xs)) g).0))
+  beaten x (y ∷ xs) (o ∷ es) later b i n g =
+      let t : map offer xs ≡ es ++ b ∷ later = cc in
+      beaten x xs es later b t n (and_parts (good (f x) (f y)) (as_good_as good (f x) (map f xs)) g).1
 
-  at : (k : ℕ) (xs : List A) (es later : List (ℕ × S)) (b : ℕ × S) → offers k xs ≡ es ++ b ∷ later → AllByRecursion (λ x. Good x.1 b.1 → ⊥) es → AllByRecursion (λ x. Good b.1 x.1) later → At k xs b
-  at k [] [] later b e w l = absurd (no_offer e)
-  at k [] (x ∷ es) later b e w l = absurd (no_offer e)
-  at k (a ∷ xs) [] later b e w l =
-      let h : (k, score a) ≡ b = cc in
-      let t : offers (suc k) xs ≡ later = cc in
-      let z : k + 0 ≡ k = omega arith in
-      rw (no_better a (suc k) xs (rw (sym h, sym t) at l)) (rw (sym h, z), omega arith, rw (sym h))
-  at k (a ∷ xs) (x ∷ es) later b e w l =
-      let h : (k, score a) ≡ x = cc in
-      let t : offers (suc k) xs ≡ es ++ b ∷ later = cc in
-      let n : Good (score a) b.1 → ⊥ = rw (sym h) at w.0 in
-      let no : as_good_as good a xs ≡ false = elim (as_good_as good a xs) as (λ v. as_good_as good a xs ≡ v → as_good_as good a xs ≡ false) [
-        | true ↦ λ g. absurd (beaten a (suc k) xs es later b t n g)
+  at : (xs : List X) (es later : List (C × S)) (b : C × S) → map offer xs ≡ es ++ b ∷ later → AllByRecursion (λ o. Good o.1 b.1 → ⊥) es → AllByRecursion (λ o. Good b.1 o.1) later → At xs b
+  at [] [] later b i w l = absurd (no_offer i)
+  at [] (o ∷ es) later b i w l = absurd (no_offer i)
+  at (x ∷ xs) [] later b i w l =
+      let h : offer x ≡ b = cc in
+      let t : map offer xs ≡ later = cc in
+      rw (no_better x xs (rw (sym h, sym t) at l)) (omega arith, sym h)
+  at (x ∷ xs) (o ∷ es) later b i w l =
+      let h : offer x ≡ o = cc in
+      let t : map offer xs ≡ es ++ b ∷ later = cc in
+      let n : Good (score (f x)) b.1 → ⊥ = rw (sym h) at w.0 in
+      let no : as_good_as good (f x) (map f xs) ≡ false = elim (as_good_as good (f x) (map f xs)) as (λ v. as_good_as good (f x) (map f xs) ≡ v → as_good_as good (f x) (map f xs) ≡ false) [
+        | true ↦ λ g. absurd (beaten x xs es later b t n g)
         | false ↦ λ g. g
       ] refl in
-      let r = at (suc k) xs es later b t w.1 l in
-      let z : k + suc (first_best good xs) ≡ suc k + first_best good xs = omega arith in
-      rw (no, z) (r.0, omega (arith, r.1), r.2)
+      let r = at xs es later b t w.1 l in
+      rw no (omega (arith, r.0), r.1)
 
-  pub chosen_is_first : (xs : List A) (held : Option (ℕ × S)) → Chosen Good (offers 0 xs) held → MatchOption held (xs ≡ []) (At 0 xs)
-  chosen_is_first [] None e = refl
-  chosen_is_first (x ∷ xs) None e = absurd (no_offer (sym e))
-  chosen_is_first xs (Some b) f = at 0 xs f.earlier f.later b f.stands f.earlier_are_worse f.later_are_no_better
+  pub chosen_is_best : (xs : List X) (held : Option (C × S)) → Chosen Good (map offer xs) held → MatchOption held (xs ≡ []) (At xs)
+  chosen_is_best [] None i = refl
+  chosen_is_best (x ∷ xs) None i = absurd (no_offer (sym i))
+  chosen_is_best xs (Some b) h = at xs h.earlier h.later b h.stands h.earlier_are_worse h.later_are_no_better

@@ -1,7 +1,7 @@
 -- A meaning that is unfit unless a test passes.
 use Rattle.std.proofs.Common.{◌≡◌, ℕ, Bool, true, false, Ok, Err, Result, sym, refl, arith}
 use Rattle.finders.specs.declared.refusals.Refusal.{Refusal}
-use Rattle.finders.specs.Meanings.{Meaning, unfit_unless, Keeps, checked}
+use Rattle.finders.specs.Meanings.{Meaning, unfit_unless, Keeps, Agree, checked}
 
 -- what is granted is not refused
 pub not_err : {A : Type 0} {x : A} {e : Refusal} → ◌≡◌ {A = Result A Refusal} (Ok x) (Err e) → ⊥
@@ -11,6 +11,11 @@ not_err h = let z : ◌≡◌ {A = ℕ} 0 1 = cc in omega arith
 pub unfit_unless_keeps : {F : Type 1} (Laws : F → Type 0) (b : Bool) (e : Refusal) (M : Meaning F) → (b ≡ true → Keeps Laws M) → Keeps Laws (unfit_unless b e M)
 unfit_unless_keeps Laws true e M l = l refl
 unfit_unless_keeps Laws false e M l = tt
+
+-- two meanings that agree, agree under the same test
+pub unfit_unless_agrees : {F : Type 1} (Alike : F → F → Type 0) (b c : Bool) (e : Refusal) (M N : Meaning F) → b ≡ c → Agree Alike M N → Agree Alike (unfit_unless b e M) (unfit_unless c e N)
+unfit_unless_agrees Alike b true e M N h a = rw h a
+unfit_unless_agrees Alike b false e M N h a = rw h refl
 
 -- a test that a grant has passed
 pub passed : (b : Bool) (e : Refusal) (r : Result (Unit {0}) Refusal) → checked b e r ≡ Ok tt → (b ≡ true) × (r ≡ Ok tt)

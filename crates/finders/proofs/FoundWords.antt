@@ -1,5 +1,5 @@
 -- What any finder of words finds has the greatest correlation, by the laws of its meaning.
-use Rattle.std.proofs.Common.{◌≡◌, ℕ, eqb, List, length, ℤ, Ok, Err, Result, refl, ap}
+use Rattle.std.proofs.Common.{◌≡◌, ℕ, eqb, List, length, ℤ, Ok, Err, Result, refl, ap, ◌∙◌}
 use Rattle.std.proofs.lemmas.Bool.{eqb-true}
 use Rattle.finders.specs.declared.refusals.Refusal.{Refusal}
 use Rattle.finders.specs.declared.refusals.Refusal.TheVariants.{Length, Magnitude}
@@ -27,6 +27,19 @@ outcome (fit m) gs l = at_check m gs (find_checked m.width m.gain_limit gs) l (f
 -- the same of an answer r that is as it should be
 pub outcome_of : (M : Meaning WordFit) (gs : List ℤ) (r : Result (ℕ × ℤ) Refusal) → Lawful M → r ≡ find_answer M gs → Outcome M gs r
 outcome_of M gs r l e = rw e (outcome M gs l)
+
+pub same_trans : (L M N : Meaning WordFit) → Same L M → Same M N → Same L N
+same_trans (unfit e) (unfit f) (unfit h) s t = s ∙ t
+same_trans (unfit e) (unfit f) (fit n) s t = absurd t
+same_trans (unfit e) (fit m) N s t = absurd s
+same_trans (fit l) (unfit f) N s t = absurd s
+same_trans (fit l) (fit m) (unfit h) s t = absurd t
+same_trans (fit l) (fit m) (fit n) s t = record {
+  same_width = s.same_width ∙ t.same_width;
+  same_gain_limit = s.same_gain_limit ∙ t.same_gain_limit;
+  same_members = λ w. (λ h. (t.same_members w).0 ((s.same_members w).0 h), λ h. (s.same_members w).1 ((t.same_members w).1 h));
+  same_picks = λ gs. s.same_picks gs ∙ t.same_picks gs;
+}
 
 -- two finders that mean the same find the same
 pub same_finds : (M N : Meaning WordFit) (gs : List ℤ) → Same M N → find_answer M gs ≡ find_answer N gs

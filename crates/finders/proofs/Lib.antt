@@ -5,6 +5,7 @@ pub mod Digits
 pub mod Fitness
 pub mod Found
 pub mod FoundWords
+pub mod GrantedWords
 pub mod Choosing
 pub mod Firsts
 pub mod FirstRuns

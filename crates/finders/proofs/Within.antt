@@ -26,6 +26,10 @@ within_at limit [] i h k = absurd (omega arith)
 within_at limit (z ∷ zs) zero h k = leb-true (nat_abs z) limit (and_parts (leb (nat_abs z) limit) (within limit zs) h).0
 within_at limit (z ∷ zs) (suc i) h k = within_at limit zs i (and_parts (leb (nat_abs z) limit) (within limit zs) h).1 (omega arith)
 
+pub within_wider : (k l : ℕ) (zs : List ℤ) → k ≤ l → within k zs ≡ true → within l zs ≡ true
+within_wider k l [] h t = refl
+within_wider k l (z ∷ zs) h t = let p = and_parts (leb (nat_abs z) k) (within k zs) t in rw (le-leb (nat_abs z) l (omega (arith, leb-true (nat_abs z) k p.0)), within_wider k l zs h p.1)
+
 pub within_take : (limit n : ℕ) (zs : List ℤ) → within limit zs ≡ true → within limit (take n zs) ≡ true
 within_take limit zero zs h = refl
 within_take limit (suc n) [] h = refl

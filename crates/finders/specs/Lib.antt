@@ -7,3 +7,4 @@ pub mod Words
 pub mod WordFinders
 pub mod Rounding
 pub mod Choice
+pub mod Lists

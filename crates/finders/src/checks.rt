@@ -2,7 +2,7 @@ ghost use Rattle.std.specs.Prelude.{◌≡◌, not};
 ghost use Rattle.finders.specs.Points.{within};
 ghost use Rattle.finders.specs.Sizes.{width_checked, list_checked};
 ghost use Rattle.finders.specs.PointFinders.{find_checked, test_checked};
-ghost use Rattle.finders.specs.Words.{fits};
+ghost use Rattle.finders.specs.Words.{fits, all_fit};
 ghost use Rattle.finders.specs.WordFinders.{find_checked as word_find_checked, test_checked as word_test_checked};
 
 use super::points::{MOST_CELLS, PointShape};
@@ -31,6 +31,13 @@ pub fn has_digit_beyond(word: u32, width: usize) -> bool
     ensures tells_whether_a_digit_is_beyond { result ≡ not (fits width word) }
 {
     width < MOST_CELLS && word >> width != 0
+}
+
+// Whether no word of a list has a digit 1 beyond so many cells.
+pub fn all_words_fit(words: &[u32], width: usize) -> bool
+    ensures tells_whether_all_fit { result ≡ all_fit width words.now }
+{
+    words.iter().all(|word| !has_digit_beyond(*word, width))
 }
 
 // What a list is refused for that is to have so many numbers, none larger in size than a limit.

@@ -10,4 +10,5 @@ pub mod words;
 // Shared by the library's own crates; no call for its users.
 pub mod checks;
 pub mod choice;
+pub mod lists;
 pub mod rounding;

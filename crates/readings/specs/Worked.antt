@@ -7,6 +7,7 @@ use Rattle.finders.specs.Rounding.{turned}
 use Rattle.finders.specs.WordFinders.{find_answer as find_word}
 use Rattle.codes.specs.EvenWeight.{even_weight}
 use Rattle.codes.specs.ReedMuller.{reed_muller}
+use Rattle.code_layers.specs.Glue.{glued}
 use Rattle.lattices.specs.LatticeD.{lattice_d}
 
 pub data Worked : Type 0 where
@@ -20,6 +21,8 @@ pub data Worked : Type 0 where
   finds_even : List ℤ → ℕ → ℤ → Worked
   -- m, gains, and the word of the Reed-Muller code of 2^m cells and the correlation that are found
   finds_reed_muller : ℕ → List ℤ → ℕ → ℤ → Worked
+  -- glue words, gains, and what is found of the words of even weight that are glued by them
+  finds_glued_even : List ℕ → List ℤ → ℕ → ℤ → Worked
 
 abbrev pub step : ℕ
 step = 10
@@ -31,6 +34,7 @@ Holds (turns r x) = turned step r ≡ x
 Holds (finds_d rs xs d) = (find_answer (lattice_d (length rs)) rs step rs ≡ Ok d) × (find_place (lattice_d (length rs)) rs step rs ≡ xs)
 Holds (finds_even gs w c) = find_word (even_weight (length gs)) gs ≡ Ok (w, c)
 Holds (finds_reed_muller m gs w c) = find_word (reed_muller m) gs ≡ Ok (w, c)
+Holds (finds_glued_even ws gs w c) = find_word (glued ws (even_weight (length gs))) gs ≡ Ok (w, c)
 
 -- negsuc n is -(n + 1)
 abbrev pub worked : List Worked
@@ -45,6 +49,7 @@ worked =
     ∷ finds_d (pos 10 ∷ pos 0 ∷ pos 0 ∷ pos 0 ∷ []) (pos 2 ∷ pos 0 ∷ pos 0 ∷ pos 0 ∷ []) 100
     ∷ finds_even (pos 0 ∷ pos 0 ∷ negsuc 3 ∷ pos 1 ∷ []) 5 (pos 5)
     ∷ finds_reed_muller 2 (pos 1 ∷ pos 1 ∷ pos 1 ∷ negsuc 0 ∷ []) 0 (pos 2)
+    ∷ finds_glued_even (1 ∷ []) (negsuc 2 ∷ pos 2 ∷ []) 1 (pos 5)
     ∷ []
 
 abbrev pub AllHold : Type 0

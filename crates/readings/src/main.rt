@@ -3,6 +3,7 @@
 
 mod worked;
 
+use code_layers::glue::Glue;
 use codes::even_weight::EvenWeight;
 use codes::reed_muller::ReedMuller;
 use finders::points::PointFinder;
@@ -27,7 +28,7 @@ fn print_word(
     rt: &impl Print,
     name: &str,
     code: &impl WordFinder,
-    gains: &[i32; 4],
+    gains: &[i32],
 ) -> io::Result<()> {
     match code.find(gains) {
         Ok((word, correlation)) => println!(rt; "{name} of {gains:?} is {word} at {correlation}"),
@@ -47,5 +48,7 @@ fn main(rt: HostRuntime) -> io::Result<()> {
     }
     print_point(&rt, &[10, 0, 0, 0])?;
     print_word(&rt, "EvenWeight", &EvenWeight::new(4), &[0, 0, -4, 1])?;
-    print_word(&rt, "ReedMuller 2", &ReedMuller::new(2), &[1, 1, 1, -1])
+    print_word(&rt, "ReedMuller 2", &ReedMuller::new(2), &[1, 1, 1, -1])?;
+    let glued = Glue::new(EvenWeight::new(2), &[1]);
+    print_word(&rt, "Glue of 1 over EvenWeight", &glued, &[-3, 2])
 }

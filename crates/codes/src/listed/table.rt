@@ -1,38 +1,27 @@
-ghost use Rattle.std.specs.Prelude.{◌≡◌, ◌≤◌, true, length, take};
+ghost use Rattle.std.specs.Prelude.{◌≡◌, ◌≤◌, true, length};
+ghost use Rattle.finders.specs.Lists.{words_in as list_of};
 ghost use Rattle.finders.specs.Sizes.{in_range};
+ghost use Rattle.finders.specs.Words.{all_fit};
 ghost use Rattle.codes.specs.Codes.{shape};
-ghost use Rattle.codes.specs.Listed.{few, as_wide, listed};
+ghost use Rattle.codes.specs.Listed.{few, listed};
 
 use super::super::shapes::shape;
-use finders::checks::{check_width, has_digit_beyond};
+use finders::checks::{all_words_fit, check_width};
+use finders::lists::WordList;
 use finders::refusals::Refusal;
 use finders::words::WordShape;
 
 // The most words of a list.
 const MOST_WORDS: usize = 64;
 
-// Words of a width: the first `count` of an array of fixed length, since the library allocates nothing, and `Listed` is `Copy`, which an
-// `ArrayVec` is not. The rest of the array is not used.
+// Some words of a width, listed.
 #[derive(Clone, Copy)]
 pub(super) struct Table {
     width: usize,
-    count: usize,
-    words: [u32; MOST_WORDS],
+    list: WordList<MOST_WORDS>,
     ghost sized: { in_range width ≡ true },
-    ghost counted: { few count ≡ true },
-    ghost held: { count ≤ length words },
-    ghost fitting: { as_wide width (take count words) ≡ true },
-}
-
-// An array that begins with these words.
-fn copied(words: &[u32]) -> [u32; MOST_WORDS]
-    requires few { length words.now ≤ MOST_WORDS }
-    ensures begins { take (length words.now) result ≡ words.now }
-    ensures holds { length words.now ≤ length result }
-{
-    let mut array = [0; MOST_WORDS];
-    array[..words.len()].copy_from_slice(words);
-    array
+    ghost counted: { few (length (list_of list)) ≡ true },
+    ghost fitting: { all_fit width (list_of list) ≡ true },
 }
 
 impl Table {
@@ -44,26 +33,21 @@ impl Table {
         ensures { Same (listed_in result) (listed width words.now) }
     {
         check_width(width)?;
-        let count = words.len();
-        if count < 1 || count > MOST_WORDS {
+        if words.is_empty() {
             return Err(Refusal::WordCount);
         }
-        if words.iter().any(|word| has_digit_beyond(*word, width)) {
+        let list = WordList::new(words).ok_or(Refusal::WordCount)?;
+        if !all_words_fit(words, width) {
             return Err(Refusal::Entry);
         }
-        Ok(Table {
-            width,
-            count,
-            words: copied(words),
-        })
+        Ok(Table { width, list })
     }
 
     pub(super) fn words(&self) -> &[u32]
         ensures words { result.now ≡ words_in self.now }
         ensures some_word { 1 ≤ length result.now }
     {
-        let count = self.count;
-        &self.words[..count]
+        self.list.all()
     }
 
     pub(super) fn shape(&self) -> WordShape

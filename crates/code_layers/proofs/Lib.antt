@@ -1,0 +1,9 @@
+pub mod CountingDown
+pub mod GroupDigits
+pub mod GroupSums
+pub mod RepeatAnswers
+pub mod Joining
+pub mod GlueSums
+pub mod GlueSearch
+pub mod Padding
+pub mod Shortening

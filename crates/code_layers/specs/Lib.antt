@@ -1,0 +1,12 @@
+pub mod Repeat
+pub mod Parts
+pub mod Join
+pub mod Glue
+pub mod Shorten
+pub mod Groups
+pub mod RepeatLaws
+pub mod PartsLaws
+pub mod JoinLaws
+pub mod GlueLaws
+pub mod GlueFinds
+pub mod ShortenLaws
