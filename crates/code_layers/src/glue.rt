@@ -1,6 +1,6 @@
 ghost use Rattle.std.specs.Prelude.{◌≡◌, ◌^◌, true, Ok, Err, MatchResult};
 ghost use Rattle.finders.specs.Points.{within};
-ghost use Rattle.finders.specs.WordFinders.{find_answer, Contains};
+ghost use Rattle.finders.specs.WordFinders.{find_answer, Contains, Same};
 ghost use Rattle.code_layers.specs.Glue.{glue_sum, negated, glued, glue_words, glued_by};
 ghost use Rattle.code_layers.specs.GlueFinds.{Granted, Tested};
 ghost use Rattle.code_layers.specs.GlueLaws.{glued_lawful};
@@ -23,8 +23,6 @@ pub struct Glue<F> {
 }
 
 impl<F: WordFinder> Glue<F> {
-    ghost use Rattle.finders.specs.WordFinders.{Same};
-
     // Fit where what is below is, for no more than 7 glue words, which are copied, with no digit beyond its width.
     pub fn new(below: F, words: &[u32]) -> Glue<F>
         ensures means_the_glued_words { Same (⟦<Glue<F> as WordFinder>⟧.meaning result) (glued words.now (F.meaning below)) }

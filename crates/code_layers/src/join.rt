@@ -1,5 +1,5 @@
 ghost use Rattle.std.specs.Prelude.{◌≡◌, Ok, Err, MatchResult};
-ghost use Rattle.finders.specs.WordFinders.{shape_of, width_of};
+ghost use Rattle.finders.specs.WordFinders.{shape_of, width_of, Same};
 ghost use Rattle.code_layers.specs.Join.{joined};
 ghost use Rattle.code_layers.specs.JoinLaws.{joined_lawful};
 
@@ -15,8 +15,6 @@ pub struct Join<F, G> {
 }
 
 impl<F: WordFinder, G: WordFinder> Join<F, G> {
-    ghost use Rattle.finders.specs.WordFinders.{Same};
-
     // Fit where both are, and have no more than 32 cells together.
     pub fn new(first: F, second: G) -> Join<F, G>
         ensures means_the_joined_words { Same (⟦<Join<F, G> as WordFinder>⟧.meaning result) (joined (F.meaning first) (G.meaning second)) }

@@ -1,5 +1,5 @@
 ghost use Rattle.std.specs.Prelude.{◌≡◌, Ok, Err, MatchResult};
-ghost use Rattle.finders.specs.WordFinders.{shape_of, width_of};
+ghost use Rattle.finders.specs.WordFinders.{shape_of, width_of, Same};
 ghost use Rattle.code_layers.specs.Repeat.{repeated_words};
 ghost use Rattle.code_layers.specs.RepeatLaws.{repeated_lawful};
 
@@ -24,8 +24,6 @@ pub struct Repeat<F> {
 }
 
 impl<F: WordFinder> Repeat<F> {
-    ghost use Rattle.finders.specs.WordFinders.{Same};
-
     // Fit where what is below is, for 2 to 32 times, where the words have no more than 32 cells and some gain is left.
     pub fn new(below: F, times: usize) -> Repeat<F>
         ensures means_the_repeated_words { Same (⟦<Repeat<F> as WordFinder>⟧.meaning result) (repeated_words times (F.meaning below)) }

@@ -1,4 +1,5 @@
 ghost use Rattle.std.specs.Prelude.{◌≡◌, ◌+◌, ◌<◌, length, take};
+ghost use Rattle.finders.specs.WordFinders.{Same};
 ghost use Rattle.code_layers.specs.Shorten.{shortened, with_last};
 ghost use Rattle.code_layers.specs.ShortenLaws.{shortened_lawful};
 
@@ -14,8 +15,6 @@ pub struct Shorten<F> {
 }
 
 impl<F: WordFinder> Shorten<F> {
-    ghost use Rattle.finders.specs.WordFinders.{Same};
-
     // Fit where what is below is, and has more than one cell.
     pub fn new(below: F) -> Shorten<F>
         ensures means_the_shortened_words { Same (⟦<Shorten<F> as WordFinder>⟧.meaning result) (shortened (F.meaning below)) }

@@ -1,5 +1,6 @@
 ghost use Rattle.std.specs.Prelude.{◌≡◌, ◌<◌, [], length, pos, MatchOption, slice_index_or, unsigned_abs};
 ghost use Rattle.finders.specs.Words.{correlation as correlation_of};
+ghost use Rattle.finders.specs.WordFinders.{Same};
 ghost use Rattle.codes.specs.EvenWeight.{even_weight, even, even_pick, weakest};
 ghost use Rattle.codes.specs.EvenWeightLaws.{even_weight_lawful};
 
@@ -17,12 +18,9 @@ pub struct EvenWeight {
 }
 
 impl EvenWeight {
-    ghost use Rattle.finders.specs.WordFinders.{Same};
-    ghost use Rattle.codes.specs.contracts.even_weight.EvenWeightWordFinder.TheImpl.{ghosts};
-
     // The words of even weight of so many cells: fit for 1 to 32 of them.
     pub fn new(width: usize) -> EvenWeight
-        ensures means_the_code { Same (ghosts.meaning result) (even_weight width) }
+        ensures means_the_code { Same (⟦<EvenWeight as WordFinder>⟧.meaning result) (even_weight width) }
     {
         EvenWeight { width }
     }

@@ -1,6 +1,7 @@
 ghost use Rattle.std.specs.Prelude.{◌≡◌, ◌<◌, [], length, Ok, Err, MatchOption, MatchResult, slice_index};
 ghost use Rattle.finders.specs.Words.{correlation as correlation_of};
-ghost use Rattle.codes.specs.Listed.{first_listed};
+ghost use Rattle.finders.specs.WordFinders.{Same};
+ghost use Rattle.codes.specs.Listed.{first_listed, listed};
 ghost use Rattle.codes.specs.Tables.{listed_in};
 ghost use Rattle.codes.specs.ListedLaws.{listed_lawful};
 
@@ -19,13 +20,9 @@ pub struct Listed {
 }
 
 impl Listed {
-    ghost use Rattle.finders.specs.WordFinders.{Same};
-    ghost use Rattle.codes.specs.Listed.{listed};
-    ghost use Rattle.codes.specs.contracts.listed.ListedWordFinder.TheImpl.{ghosts};
-
     // The code of these words, each of so many cells: fit for 1 to 32 cells and 1 to 64 words.
     pub fn new(width: usize, words: &[u32]) -> Listed
-        ensures means_the_code { Same (ghosts.meaning result) (listed width words.now) }
+        ensures means_the_code { Same (⟦<Listed as WordFinder>⟧.meaning result) (listed width words.now) }
     {
         Listed {
             table: Table::new(width, words),

@@ -1,3 +1,4 @@
+ghost use Rattle.finders.specs.WordFinders.{Same};
 ghost use Rattle.codes.specs.ReedMuller.{reed_muller};
 ghost use Rattle.codes.specs.ReedMullerLaws.{reed_muller_lawful};
 
@@ -17,12 +18,9 @@ pub struct ReedMuller {
 }
 
 impl ReedMuller {
-    ghost use Rattle.finders.specs.WordFinders.{Same};
-    ghost use Rattle.codes.specs.contracts.reed_muller.ReedMullerWordFinder.TheImpl.{ghosts};
-
     // The code of 2^m cells: fit for m from 1 to 5.
     pub fn new(m: u32) -> ReedMuller
-        ensures means_the_code { Same (ghosts.meaning result) (reed_muller m) }
+        ensures means_the_code { Same (⟦<ReedMuller as WordFinder>⟧.meaning result) (reed_muller m) }
     {
         ReedMuller { m }
     }

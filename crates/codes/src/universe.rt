@@ -1,3 +1,4 @@
+ghost use Rattle.finders.specs.WordFinders.{Same};
 ghost use Rattle.codes.specs.Universe.{universe};
 ghost use Rattle.codes.specs.UniverseLaws.{universe_lawful};
 
@@ -13,12 +14,9 @@ pub struct Universe {
 }
 
 impl Universe {
-    ghost use Rattle.finders.specs.WordFinders.{Same};
-    ghost use Rattle.codes.specs.contracts.universe.UniverseWordFinder.TheImpl.{ghosts};
-
     // All words of so many cells: fit for 1 to 32 of them.
     pub fn new(width: usize) -> Universe
-        ensures means_the_code { Same (ghosts.meaning result) (universe width) }
+        ensures means_the_code { Same (⟦<Universe as WordFinder>⟧.meaning result) (universe width) }
     {
         Universe { width }
     }

@@ -1,5 +1,6 @@
 ghost use Rattle.std.specs.Prelude.{◌≡◌, ◌<◌, [], length, MatchOption, ◌==◌};
 ghost use Rattle.finders.specs.Points.{distance as distance_of};
+ghost use Rattle.finders.specs.PointFinders.{Same};
 ghost use Rattle.lattices.specs.LatticeZ.{rounded};
 ghost use Rattle.lattices.specs.LatticeD.{lattice_d, parity, repaired, worst_cell};
 ghost use Rattle.lattices.specs.DLaws.{d_lawful};
@@ -18,12 +19,9 @@ pub struct LatticeD {
 }
 
 impl LatticeD {
-    ghost use Rattle.finders.specs.PointFinders.{Same};
-    ghost use Rattle.lattices.specs.contracts.lattice_d.LatticeDPointFinder.TheImpl.{ghosts};
-
     // D of so many cells: fit for 1 to 32 of them.
     pub fn new(width: usize) -> LatticeD
-        ensures means_the_lattice { Same (ghosts.meaning result) (lattice_d width) }
+        ensures means_the_lattice { Same (⟦<LatticeD as PointFinder>⟧.meaning result) (lattice_d width) }
     {
         LatticeD { width }
     }

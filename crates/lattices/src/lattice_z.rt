@@ -1,3 +1,4 @@
+ghost use Rattle.finders.specs.PointFinders.{Same};
 ghost use Rattle.lattices.specs.LatticeZ.{lattice_z};
 ghost use Rattle.lattices.specs.ZLaws.{z_lawful};
 
@@ -12,12 +13,9 @@ pub struct LatticeZ {
 }
 
 impl LatticeZ {
-    ghost use Rattle.finders.specs.PointFinders.{Same};
-    ghost use Rattle.lattices.specs.contracts.lattice_z.LatticeZPointFinder.TheImpl.{ghosts};
-
     // Z of so many cells: fit for 1 to 32 of them.
     pub fn new(width: usize) -> LatticeZ
-        ensures means_the_lattice { Same (ghosts.meaning result) (lattice_z width) }
+        ensures means_the_lattice { Same (⟦<LatticeZ as PointFinder>⟧.meaning result) (lattice_z width) }
     {
         LatticeZ { width }
     }
