@@ -1,4 +1,4 @@
-ghost use Rattle.std.specs.Prelude.{◌≡◌, ◌^◌, true, Ok, Err, MatchResult};
+ghost use Rattle.std.specs.Prelude.{◌≡◌, ◌^◌, ◌≤◌, true, length, Ok, Err, MatchResult};
 ghost use Rattle.finders.specs.Points.{within};
 ghost use Rattle.finders.specs.WordFinders.{find_answer, Contains, Same};
 ghost use Rattle.code_layers.specs.Glue.{glue_sum, negated, glued, glue_words, glued_by};
@@ -49,7 +49,7 @@ impl<F: WordFinder> Glue<F> {
         let mut place = [0; MOST_CELLS];
         let negated = &mut place[..gains.len()];
         let mut best = FirstBest::none();
-        for j in 0..1 << words.len() {
+        for j in 0..sum_count(words) {
             let sum = glue_sum(words, j);
             negated.copy_from_slice(gains);
             negate(negated, sum);
@@ -60,6 +60,14 @@ impl<F: WordFinder> Glue<F> {
         let (word, Greatest(correlation)) = best.held.unwrap();
         Ok((word, correlation))
     }
+}
+
+// How many sums of glue words there are: one for each choice of some of them.
+fn sum_count(words: &[u32]) -> u32
+    requires few { length words.now ≤ 7 }
+    ensures { result ≡ 2 ^ length words.now }
+{
+    1 << words.len()
 }
 
 // The XOR of the glue words whose bit in j is 1.
@@ -117,7 +125,7 @@ impl<F: WordTester> Glue<F> {
         requires tested { Tested words.now (F.WordFinder.meaning self.now.below) word }
         ensures { Contains (glued words.now (F.WordFinder.meaning self.now.below)) word result }
     {
-        for j in 0..1 << words.len() {
+        for j in 0..sum_count(words) {
             if self.below.contains(glue_sum(words, j) ^ word)? {
                 return Ok(true);
             }
