@@ -1,17 +1,16 @@
 -- The search for the best of the glued words, over the sums of glue words in order.
-use Rattle.std.proofs.Common.{◌≡◌, ℕ, ◌+◌, ◌<◌, ◌≤◌, ◌^◌, MatchOption, List, [], ◌∷◌, ◌++◌, map, length, get_or, ℤ, Some, None, Option, Ok, Result, bit_xor, sym, ap, ap₂, ◌∙◌, arith, pow_pos}
+use Rattle.std.proofs.Common.{◌≡◌, ℕ, ◌+◌, ◌^◌, List, [], ◌∷◌, ◌++◌, map, length, ℤ, Some, Option, Ok, Result, bit_xor, sym, ap, ap₂, ◌∙◌, arith, pow_pos}
 use Rattle.std.specs.List.{range_with_len}
-use Rattle.std.proofs.lemmas.List.FromFn.{map-range_with_len_more, length-range_with_len}
+use Rattle.std.proofs.lemmas.List.FromFn.{map-range_with_len_more}
 use Rattle.finders.specs.declared.choice.Greatest.{Greatest}
 use Rattle.finders.specs.declared.refusals.Refusal.{Refusal}
 use Rattle.finders.specs.Choice.{Chosen, no_less}
 use Rattle.finders.specs.Meanings.{Meaning}
 use Rattle.finders.specs.WordFinders.{WordFit, find_answer}
-use Rattle.finders.proofs.Firsts.{chosen_is_best}
-use Rattle.finders.proofs.Scores.{Great, great, great_decides}
-use Rattle.code_layers.specs.Glue.{glue_sum, negated, sum_numbers, best_in, score, best_sum}
+use Rattle.finders.proofs.FirstNumbers.{chosen_number}
+use Rattle.finders.proofs.Scores.{Great, great, great_decides, no_less_total, no_less_chain}
+use Rattle.code_layers.specs.Glue.{glue_sum, negated, best_in, score, best_sum}
 use Rattle.code_layers.specs.GlueFinds.{pick_of}
-use Rattle.code_layers.specs.GlueLaws.{number_at, best_is}
 
 module _ (ws : List ℕ) (pick : List ℤ → ℕ) (gs : List ℤ) where
   -- the best word that the sum with number j moves, with its score
@@ -22,19 +21,9 @@ module _ (ws : List ℕ) (pick : List ℤ → ℕ) (gs : List ℤ) where
   abbrev pub offers : ℕ → List (ℕ × Greatest)
   offers k = map offer (range_with_len 0 k)
 
-  abbrev best : ℕ
-  best = best_sum ws pick gs
-
   -- what is held after all of them is the pick
-  pub held_last : (held : Option (ℕ × Greatest)) → Chosen Great (offers (2 ^ length ws)) held → held ≡ Some (offer best)
-  held_last held chosen = go held (chosen_is_best (best_in ws pick gs) (score ws pick gs) great no_less Great great_decides 0 (sum_numbers ws) held chosen)
-    where
-      go : (held : Option (ℕ × Greatest)) → MatchOption held (sum_numbers ws ≡ []) (λ b. (best < length (sum_numbers ws)) × (b ≡ offer (get_or (sum_numbers ws) best 0))) → held ≡ Some (offer best)
-      go None none =
-          let z : 0 ≡ 2 ^ length ws = sym (ap length none) ∙ length-range_with_len 0 (2 ^ length ws) in
-          let some : 1 ≤ 2 ^ length ws = pow_pos (length ws) in
-          absurd (omega arith)
-      go (Some b) p = ap Some (rw (number_at ws best (best_is ws pick gs).0) at p.1)
+  pub held_last : (held : Option (ℕ × Greatest)) → Chosen Great (offers (2 ^ length ws)) held → held ≡ Some (offer (best_sum ws pick gs))
+  held_last = chosen_number no_less no_less_total no_less_chain (score ws pick gs) (2 ^ length ws) (pow_pos (length ws)) (best_in ws pick gs) great Great great_decides
 
 -- one turn: the find below answers the word w, with the correlation c, for the gains as the sum with number k turns them
 pub turn : (ws : List ℕ) (M : Meaning WordFit) (gs copied turned : List ℤ) (k s w : ℕ) (c d : ℤ) (held : Option (ℕ × Greatest))

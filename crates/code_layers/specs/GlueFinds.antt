@@ -1,16 +1,16 @@
 -- What a find of glued words asks below, and what it comes to.
-use Rattle.std.specs.Prelude.{◌≡◌, ℕ, ◌^◌, ◌≤◌, Bool, true, List, length, ℤ, Ok, Err, Result, nat_le, bit_xor, ◌<◌, Decides, refl}
+use Rattle.std.specs.Prelude.{◌≡◌, ℕ, ◌^◌, ◌≤◌, Bool, true, List, length, ℤ, Ok, Result, nat_le, bit_xor, ◌<◌, Decides}
 use Rattle.std.proofs.Common.{sym, ap, ◌∙◌, arith}
 use Rattle.std.proofs.lemmas.Bool.{leb-true}
 use Rattle.std.proofs.lemmas.Nat.{xor_lt}
 use Rattle.finders.specs.declared.refusals.Refusal.{Refusal}
 use Rattle.finders.specs.declared.refusals.Refusal.TheVariants.{GlueCount, Entry}
 use Rattle.finders.specs.declared.words.WordShape.{WordShape}
-use Rattle.finders.specs.Meanings.{Meaning, fit, unfit, Tells}
+use Rattle.finders.specs.Meanings.{Meaning, fit, unfit}
 use Rattle.finders.specs.Points.{within}
 use Rattle.finders.specs.WordFinders.{WordFit, Lawful, Member, shape_of, find_checked, find_answer, test_checked, Contains}
 use Rattle.finders.specs.Words.{all_fit}
-use Rattle.finders.proofs.Fitness.{not_err}
+use Rattle.finders.proofs.Fitness.{not_err, told_at}
 use Rattle.finders.proofs.FoundWords.{find_granted}
 use Rattle.finders.proofs.GrantedWords.{found_at, shape_passed, granted_fits, contains_tells, tells_contains}
 use Rattle.finders.proofs.Within.{within_wider}
@@ -73,10 +73,6 @@ pub record Tested (ws : List ℕ) (M : Meaning WordFit) (w : ℕ) : Type 0 where
   pub few_words : length ws ≤ 7
   pub below : (j : ℕ) (r : Result Bool Refusal) → Contains M (bit_xor (glue_sum ws j) w) r → (b : Bool) × (r ≡ Ok b) × Decides b (Member M (bit_xor (glue_sum ws j) w))
   pub whole : (b : Bool) → Decides b (MovesBelow ws M w) → Contains (glued ws M) w (Ok b)
-
-told_at : (P : Type 0) (r : Result Bool Refusal) → Tells (Ok tt) P r → (b : Bool) × (r ≡ Ok b) × Decides b P
-told_at P (Ok b) t = (b, refl, t)
-told_at P (Err e) t = absurd t
 
 tested_at : (ws : List ℕ) (M : Meaning WordFit) (s : WordShape) (w : ℕ) → Lawful M → Ok s ≡ shape_of (glued ws M) → Ok tt ≡ test_checked s.width w → Tested ws M w
 tested_at ws (unfit e) s w l h g = absurd (not_err h)

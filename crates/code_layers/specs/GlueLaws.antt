@@ -4,12 +4,11 @@ use Rattle.std.specs.Int.Bits.{xor_assoc, xor_self, xor_zero_l, xor_zero_r}
 use Rattle.std.proofs.Math.Nat.{pow-succ'}
 use Rattle.std.proofs.lemmas.List.{length-map}
 use Rattle.std.proofs.Common.{sym, ap, ◌∙◌, arith, pow_pos}
-use Rattle.std.proofs.ByRecursion.{all-has, has_get_or}
 use Rattle.std.proofs.lemmas.Int.{ints}
 use Rattle.std.proofs.lemmas.Nat.{xor_comm, xor_lt, xor_shr}
 use Rattle.std.proofs.lemmas.Nat.Bits.{bit_at_xor, bit_at_lowest}
 use Rattle.std.proofs.lemmas.Bool.{and_parts, ltb-true}
-use Rattle.std.proofs.lemmas.List.FromFn.{length-range_with_len, get_or-range_with_len}
+use Rattle.std.proofs.lemmas.List.FromFn.{length-range_with_len}
 use Rattle.finders.specs.declared.refusals.Refusal.{Refusal}
 use Rattle.finders.specs.declared.refusals.Refusal.TheVariants.{GlueCount, Entry}
 use Rattle.finders.specs.Choice.{no_less, IsFirst}
@@ -19,7 +18,8 @@ use Rattle.finders.specs.WordFinders.{WordFit, WordLaws, Lawful, Asked, SameFit,
 use Rattle.finders.specs.Words.{digit, signed, fits, all_fit, correlation}
 use Rattle.finders.proofs.Correlation.{signed_size, half_above}
 use Rattle.finders.proofs.Fitness.{unfit_unless_keeps, unfit_unless_agrees}
-use Rattle.finders.proofs.Firsts.{best_measured, first_best_is}
+use Rattle.finders.proofs.FirstNumbers.{best_number, first_best_alike}
+use Rattle.finders.proofs.Firsts.{first_best_is}
 use Rattle.finders.proofs.Scores.{no_less_total, no_less_chain, great_decides}
 use Rattle.code_layers.specs.Glue.{glue_sum, negated, sum_numbers, best_in, score, best_sum, glued_fit, glued, glued_by}
 
@@ -69,22 +69,12 @@ glue_below n (w ∷ ws) j h =
 
 -- ---- the laws
 
-pub number_at : (ws : List ℕ) (j : ℕ) → j < 2 ^ length ws → slice_index_or (sum_numbers ws) j 0 ≡ j
-number_at ws j h = get_or-range_with_len 0 (2 ^ length ws) j 0 h ∙ omega arith
-
 -- the best coset is one of them, and none has a better word
 pub best_is : (ws : List ℕ) (pick : List ℤ → ℕ) (gs : List ℤ) → (best_sum ws pick gs < 2 ^ length ws) × ((j : ℕ) → j < 2 ^ length ws → score ws pick gs j ≤ℤ score ws pick gs (best_sum ws pick gs))
 best_is ws pick gs =
     let best = best_sum ws pick gs in
-    let few = length-range_with_len 0 (2 ^ length ws) in
-    let b = best_measured no_less no_less_total no_less_chain (score ws pick gs) 0 (sum_numbers ws) (rw few (pow_pos (length ws))) in
-    let here : best < 2 ^ length ws = rw few at b.0 in (
-      here,
-      λ j h.
-          let has = rw (number_at ws j h) at (has_get_or (sum_numbers ws) j 0 (rw few h)) in
-          let told = all-has (λ k. no_less (score ws pick gs (slice_index_or (sum_numbers ws) best 0)) (score ws pick gs k) ≡ true) (sum_numbers ws) j b.1 has in
-          (great_decides (score ws pick gs best) (score ws pick gs j)).0 (rw (number_at ws best here) at told),
-    )
+    let b = best_number no_less no_less_total no_less_chain (score ws pick gs) (2 ^ length ws) (pow_pos (length ws)) in
+    (b.0, λ j h. (great_decides (score ws pick gs best) (score ws pick gs j)).0 (b.1 j h))
 
 -- what is asked below, for gains that the whole may be asked with
 pub asked_below : (ws : List ℕ) (m : WordFit) (gs : List ℤ) (p : ℕ) → Asked (glued_fit ws m) gs → Asked m (negated p gs)
@@ -156,16 +146,12 @@ best_is_first ws pick gs = first_best_is no_less no_less_total no_less_chain (po
 
 -- ---- over finders that mean the same
 
-map_alike : {X Y : Type 0} (f g : X → Y) → ((x : X) → f x ≡ g x) → (xs : List X) → map f xs ≡ map g xs
-map_alike f g h [] = refl
-map_alike {Y = Y} f g h (x ∷ xs) = rw (h x) (ap {B = List Y} (λ ys. g x ∷ ys) (map_alike f g h xs))
-
 module _ (ws : List ℕ) (p q : List ℤ → ℕ) (same : (gs : List ℤ) → p gs ≡ q gs) where
   best_alike : (gs : List ℤ) (j : ℕ) → best_in ws p gs j ≡ best_in ws q gs j
   best_alike gs j = ap (bit_xor (glue_sum ws j)) (same (negated (glue_sum ws j) gs))
 
   pub picks_alike : (gs : List ℤ) → best_in ws p gs (best_sum ws p gs) ≡ best_in ws q gs (best_sum ws q gs)
-  picks_alike gs = rw (map_alike (score ws p gs) (score ws q gs) (λ j. ap (λ (w : ℕ). correlation w gs) (best_alike gs j)) (sum_numbers ws)) (best_alike gs (best_sum ws q gs))
+  picks_alike gs = rw (first_best_alike no_less (score ws p gs) (score ws q gs) (λ j. ap (λ (w : ℕ). correlation w gs) (best_alike gs j)) (sum_numbers ws)) (best_alike gs (best_sum ws q gs))
 
 pub glued_alike : (ws : List ℕ) (M N : Meaning WordFit) → Same M N → Same (glued ws M) (glued ws N)
 glued_alike ws (unfit e) (unfit f) s = s

@@ -1,12 +1,12 @@
 -- What any finder finds is nearest, by the laws of its meaning.
-use Rattle.std.proofs.Common.{◌≡◌, ℕ, ◌&&◌, eqb, leb, List, length, ℤ, Ok, Err, Result, refl, ap}
+use Rattle.std.proofs.Common.{◌≡◌, ℕ, ◌&&◌, eqb, leb, List, length, ℤ, Ok, Err, Result, refl, ap, ◌∙◌, arith}
 use Rattle.std.proofs.lemmas.Bool.{leb-true, eqb-true, and_parts}
 use Rattle.finders.specs.declared.refusals.Refusal.{Refusal}
 use Rattle.finders.specs.declared.refusals.Refusal.TheVariants.{Length, Magnitude, Step}
 use Rattle.finders.specs.Meanings.{Meaning, fit, unfit, answered, placed}
 use Rattle.finders.specs.Points.{distance, within}
-use Rattle.finders.specs.PointFinders.{PointFit, PointLaws, Lawful, Asked, Outcome, Same, find_checked, find_answer, find_place}
-use Rattle.finders.proofs.Fitness.{passed}
+use Rattle.finders.specs.PointFinders.{PointFit, PointLaws, Lawful, Asked, Outcome, IsNearestMember, OneSet, Same, SameFit, find_checked, find_answer, find_place}
+use Rattle.finders.proofs.Fitness.{not_err, passed, agrees_trans}
 
 -- what is granted was asked as it should be
 pub find_granted : (m : PointFit) (rs : List ℤ) (q k : ℕ) → find_checked m.width m.reading_limit m.step_limit rs q k ≡ Ok tt → Asked m rs q
@@ -45,3 +45,34 @@ same_finds (unfit e) (unfit f) rs place q s = (ap Err s, refl)
 same_finds (unfit e) (fit n) rs place q s = absurd s
 same_finds (fit m) (unfit f) rs place q s = absurd s
 same_finds (fit m) (fit n) rs place q s = rw (s.same_width, s.same_reading_limit, s.same_step_limit, s.same_picks rs q) (refl, refl)
+
+-- of a place only its length counts, and where a distance is answered, not even that
+pub found_by_length : (M : Meaning PointFit) (rs place other : List ℤ) (q d : ℕ) → length place ≡ length other → Ok d ≡ find_answer M rs q place → (Ok d ≡ find_answer M rs q other) × (find_place M rs q place ≡ find_place M rs q other)
+found_by_length (unfit e) rs place other q d l h = absurd (not_err h)
+found_by_length (fit m) rs place other q d l h = let t = rw l at h in (t, rw l (written (find_checked m.width m.reading_limit m.step_limit rs q (length other)) t))
+  where
+    written : (g : Result (Unit {0}) Refusal) → Ok d ≡ answered g (distance q rs (m.pick rs q)) → placed g (m.pick rs q) place ≡ placed g (m.pick rs q) other
+    written (Ok _) e = refl
+    written (Err f) e = absurd (not_err e)
+
+-- two finders of one set find at one distance
+pub one_distance : (M N : Meaning PointFit) (rs place : List ℤ) (q d e : ℕ) → Lawful M → Lawful N → OneSet M N → find_answer M rs q place ≡ Ok d → find_answer N rs q place ≡ Ok e → d ≡ e
+one_distance M N rs place q d e l k s f g =
+    let x = find_place M rs q place in
+    let y = find_place N rs q place in
+    let a : IsNearestMember M rs q x d = rw f at (outcome M rs place q l) in
+    let b : IsNearestMember N rs q y e = rw g at (outcome N rs place q k) in
+    omega (arith, a.is_at_the_distance, b.is_at_the_distance, a.no_member_is_nearer y ((s y).1 b.is_a_member), b.no_member_is_nearer x ((s x).0 a.is_a_member))
+
+pub same_itself : (M : Meaning PointFit) → Same M M
+same_itself (unfit e) = refl
+same_itself (fit m) = record { same_width = refl; same_reading_limit = refl; same_step_limit = refl; same_members = λ x. (λ h. h, λ h. h); same_picks = λ rs q. refl }
+
+pub same_trans : (L M N : Meaning PointFit) → Same L M → Same M N → Same L N
+same_trans = agrees_trans SameFit (λ l m n s t. record {
+  same_width = s.same_width ∙ t.same_width;
+  same_reading_limit = s.same_reading_limit ∙ t.same_reading_limit;
+  same_step_limit = s.same_step_limit ∙ t.same_step_limit;
+  same_members = λ x. (λ h. (t.same_members x).0 ((s.same_members x).0 h), λ h. (s.same_members x).1 ((t.same_members x).1 h));
+  same_picks = λ rs q. s.same_picks rs q ∙ t.same_picks rs q;
+})

@@ -6,8 +6,8 @@ use Rattle.finders.specs.declared.refusals.Refusal.TheVariants.{Length, Magnitud
 use Rattle.finders.specs.Meanings.{Meaning, fit, unfit, answered}
 use Rattle.finders.specs.Points.{within}
 use Rattle.finders.specs.Words.{correlation}
-use Rattle.finders.specs.WordFinders.{WordFit, WordLaws, Lawful, Asked, Outcome, Same, find_checked, find_answer}
-use Rattle.finders.proofs.Fitness.{passed}
+use Rattle.finders.specs.WordFinders.{WordFit, WordLaws, Lawful, Asked, Outcome, Same, SameFit, find_checked, find_answer}
+use Rattle.finders.proofs.Fitness.{passed, agrees_trans}
 
 -- what is granted was asked as it should be
 pub find_granted : (m : WordFit) (gs : List ℤ) → find_checked m.width m.gain_limit gs ≡ Ok tt → Asked m gs
@@ -29,17 +29,12 @@ pub outcome_of : (M : Meaning WordFit) (gs : List ℤ) (r : Result (ℕ × ℤ) 
 outcome_of M gs r l e = rw e (outcome M gs l)
 
 pub same_trans : (L M N : Meaning WordFit) → Same L M → Same M N → Same L N
-same_trans (unfit e) (unfit f) (unfit h) s t = s ∙ t
-same_trans (unfit e) (unfit f) (fit n) s t = absurd t
-same_trans (unfit e) (fit m) N s t = absurd s
-same_trans (fit l) (unfit f) N s t = absurd s
-same_trans (fit l) (fit m) (unfit h) s t = absurd t
-same_trans (fit l) (fit m) (fit n) s t = record {
+same_trans = agrees_trans SameFit (λ l m n s t. record {
   same_width = s.same_width ∙ t.same_width;
   same_gain_limit = s.same_gain_limit ∙ t.same_gain_limit;
   same_members = λ w. (λ h. (t.same_members w).0 ((s.same_members w).0 h), λ h. (s.same_members w).1 ((t.same_members w).1 h));
   same_picks = λ gs. s.same_picks gs ∙ t.same_picks gs;
-}
+})
 
 -- two finders that mean the same find the same
 pub same_finds : (M N : Meaning WordFit) (gs : List ℤ) → Same M N → find_answer M gs ≡ find_answer N gs

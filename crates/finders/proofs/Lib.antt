@@ -1,13 +1,16 @@
 pub mod Correlation
 pub mod Distances
+pub mod PickSizes
 pub mod Within
 pub mod Digits
 pub mod Fitness
 pub mod Found
 pub mod FoundWords
 pub mod GrantedWords
+pub mod GrantedPoints
 pub mod Choosing
 pub mod Firsts
+pub mod FirstNumbers
 pub mod FirstRuns
 pub mod Scores
 pub mod RoundingLaws

@@ -19,10 +19,10 @@ divides q (negsuc a) h =
 
 -- the next number above, and the next below
 module _ (q : ℕ) (r x : ℤ) where
-  residue_up : residue q r (x +ℤ pos 1) ≡ residue q r x -ℤ pos q
+  pub residue_up : residue q r (x +ℤ pos 1) ≡ residue q r x -ℤ pos q
   residue_up = rw (*ℤ-+ℤ (pos q) x (pos 1), *ℤ-1 (pos q)) (omega (arith, ints))
 
-  residue_down : residue q r (x +ℤ negsuc 0) ≡ residue q r x +ℤ pos q
+  pub residue_down : residue q r (x +ℤ negsuc 0) ≡ residue q r x +ℤ pos q
   residue_down = rw (*ℤ-+ℤ (pos q) x (negsuc 0), *ℤ-neg (pos q) (pos 1), *ℤ-1 (pos q)) (omega (arith, ints))
 
 -- x is the nearest number, and s what it leaves

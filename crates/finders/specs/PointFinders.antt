@@ -1,5 +1,5 @@
 -- What a finder of points means, the laws of that meaning, and what each of its calls answers.
-use Rattle.std.specs.Prelude.{◌≡◌, ℕ, ◌^◌, ◌≤◌, Bool, true, ◌&&◌, List, length, ℤ, Ok, Err, Result, ◌==◌, nat_le}
+use Rattle.std.specs.Prelude.{◌≡◌, ℕ, ◌^◌, ◌≤◌, Bool, true, ◌&&◌, List, length, ℤ, Ok, Err, Result, ◌==◌, ◌↔◌, nat_le}
 use Rattle.finders.specs.declared.refusals.Refusal.{Refusal}
 use Rattle.finders.specs.declared.refusals.Refusal.TheVariants.{Length, Magnitude, Step}
 use Rattle.finders.specs.declared.points.PointShape.{PointShape}
@@ -68,6 +68,10 @@ step_limit_of = or_zero (λ m. m.step_limit)
 abbrev pub Member : Meaning PointFit → List ℤ → Type 0
 Member (unfit e) x = ⊥
 Member (fit m) x = m.member x
+
+-- each point of one is a point of the other
+abbrev pub OneSet : Meaning PointFit → Meaning PointFit → Type 0
+OneSet M N = (x : List ℤ) → Member M x ↔ Member N x
 
 -- ---- what a find is refused for, first that applies; k is the length of the place
 

@@ -1,4 +1,5 @@
-ghost use Rattle.std.specs.Prelude.{◌≡◌, ◌≤◌, ◌⊎◌, List, [], ◌∷◌, ◌++◌, ◌≤ℤ◌, None, Decides};
+ghost use Rattle.std.specs.Prelude.{◌≡◌, ◌≤◌, ◌⊎◌, List, [], ◌∷◌, ◌++◌, ◌≤ℤ◌, None, Some, Decides};
+ghost use Rattle.std.specs.Bool.{MatchBool};
 ghost use Rattle.std.specs.Iterator.{IsFinite};
 ghost use Rattle.std.specs.Iterator.Runs.{CountFits, WholeRun};
 ghost use Rattle.finders.specs.Choice.{Chosen, numbered};
@@ -69,13 +70,17 @@ impl<C: Copy, S: Score> FirstBest<C, S> {
         FirstBest { held: None }
     }
 
-    // A candidate more. Whatever was offered before, what is then held is the first best of it all.
-    pub fn offer(&mut self, candidate: C, score: S)
+    // A candidate more, and whether it is better than all before. Whatever was offered before, what is then held is the first best
+    // of it all.
+    pub fn offer(&mut self, candidate: C, score: S) -> bool
         ensures holds_the_first_best { (offers : List (C × S)) → Chosen S.good offers self.old.held → Chosen S.good (offers ++ (candidate, score) ∷ []) self.new.held }
+        ensures tells_whether_it_is_held { MatchBool result (self.new.held ≡ Some (candidate, score)) (self.new.held ≡ self.old.held) }
     {
-        if !self.held.is_some_and(|(_, best)| best.at_least(score)) {
-            self.held = Some((candidate, score));
+        if self.held.is_some_and(|(_, best)| best.at_least(score)) {
+            return false;
         }
+        self.held = Some((candidate, score));
+        true
     }
 }
 

@@ -1,7 +1,7 @@
-ghost use Rattle.std.specs.Prelude.{◌≡◌, ℕ, ◌+◌, ◌≤◌, Bool, true, ◌⊎◌, List, [], ◌∷◌, ◌++◌, length, ℤ, pos, ◌+ℤ◌, ◌≢◌, unsigned_abs};
+ghost use Rattle.std.specs.Prelude.{◌≡◌, ℕ, ◌+◌, ◌≤◌, Bool, true, ◌⊎◌, List, [], ◌∷◌, ◌++◌, length, ℤ, pos, ◌+ℤ◌, ◌≢◌, Ok, unsigned_abs};
 ghost use Rattle.integers.specs.Nearest.{nearest, residue};
 ghost use Rattle.finders.specs.Choice.{IsFirst, first_best};
-ghost use Rattle.finders.specs.PointFinders.{Outcome, find_answer, find_place};
+ghost use Rattle.finders.specs.PointFinders.{Outcome, OneSet, find_answer, find_place};
 ghost use Rattle.finders.specs.WordFinders.{Outcome as WordOutcome, find_answer as word_answer};
 ghost use Rattle.finders.specs.Rounding.{turned};
 ghost use Rattle.finders.specs.Words.{digit, signed, correlation};
@@ -16,6 +16,11 @@ use super::words::WordFinder;
 // distance, and no member is nearer; where it refuses, the place is as it was.
 pub fn what_a_finder_finds_is_nearest<F: PointFinder>(finder: &F)
     ensures nearest_or_untouched { (rs place : List ℤ) (q : ℕ) → Outcome (F.meaning finder.now) rs q place (find_place (F.meaning finder.now) rs q place) (find_answer (F.meaning finder.now) rs q place) }
+{}
+
+// Two finders of one set, asked alike: where both answer a distance, it is one and the same.
+pub fn finders_of_one_set_find_at_one_distance<F: PointFinder, G: PointFinder>(one: &F, other: &G)
+    ensures one_distance { OneSet (F.meaning one.now) (G.meaning other.now) → (rs place : List ℤ) (q d e : ℕ) → find_answer (F.meaning one.now) rs q place ≡ Ok d → find_answer (G.meaning other.now) rs q place ≡ Ok e → d ≡ e }
 {}
 
 // Whatever a finder of words is asked: where it answers a word and a correlation, the word is a member of its set with just
