@@ -1,0 +1,11 @@
+pub mod EvenCell
+pub mod CellByCell
+pub mod Gathering
+pub mod WordsBelow
+pub mod MappedInPlace
+pub mod Multiples
+pub mod Scaling
+pub mod Joining
+pub mod RowSteps
+pub mod RowTables
+pub mod GlueSearch

@@ -1,0 +1,16 @@
+pub mod ConstructionA
+pub mod Scale
+pub mod Join
+pub mod Rows
+pub mod Table
+pub mod Glue
+pub mod E8
+pub mod EvenOddLaws
+pub mod ConstructionALaws
+pub mod ScaleLaws
+pub mod JoinLaws
+pub mod RowLaws
+pub mod GlueLaws
+pub mod GlueFinds
+pub mod EvenLaws
+pub mod E8Laws
