@@ -3,8 +3,8 @@
 
     python3 samples/reference.py < crates/nearest/stdin | diff - crates/nearest/stdout
 
-For groups of up to four cells it also tries every neighbouring point, and for codes of up to ten cells, and for all listed and
-Reed-Muller words, every word. No part of the gate."""
+For groups of up to four cells it also tries every neighbouring point, for E8 every choice of near numbers, and for codes of up to ten
+cells, and for all listed and Reed-Muller words, every word. No part of the gate."""
 import functools
 import itertools
 import operator
@@ -25,15 +25,51 @@ def distance(step, readings, point):
     return sum((r - step * x) ** 2 for r, x in zip(readings, point))
 
 
-def nearest(name, step, readings):
+def near_d(step, readings):
     point = [rounded(r, step) for r in readings]
-    if name == "D" and sum(point) % 2:
+    if sum(point) % 2:
         residues = [r - step * x for r, x in zip(readings, point)]
         sizes = [abs(e) for e in residues]
         i = sizes.index(max(sizes))
         up = residues[i] > 0 or (residues[i] == 0 and point[i] >= 0)
         point[i] += 1 if up else -1
     return point
+
+
+def of_parity(digit, step, reading):
+    """The numbers of a parity about a reading, the nearest first, of equals the smaller in size, and of -1 and 1 the latter."""
+    middle = reading // step
+    numbers = [x for x in range(middle - 4, middle + 6) if x % 2 == digit]
+    return sorted(numbers, key=lambda x: (abs(reading - step * x), abs(x), -x))
+
+
+def near_by_words(finder, step, readings):
+    gains = [step - 2 * abs(r - step * of_parity(0, step, r)[0]) for r in readings]
+    word, words = finder(gains)
+    points = [[of_parity(d, step, r)[0] for d, r in zip(cells(w, len(gains)), readings)] for w in [word, *words]]
+    assert all(distance(step, readings, points[0]) <= distance(step, readings, p) for p in points), readings
+    return points[0]
+
+
+def near_e8_by_glue(step, readings):
+    found = []
+    for p in 0, 1:
+        point = [2 * x + p for x in near_d(2 * step, [r - step * p for r in readings])]
+        found.append((distance(step, readings, point), p, point))
+    for p in 0, 1:
+        for point in itertools.product(*(of_parity(p, step, r)[:2] for r in readings)):
+            assert sum(point) % 4 or distance(step, readings, point) >= min(found)[0], readings
+    return min(found)[2]
+
+
+def nearest(name, step, readings):
+    if name == "Z":
+        return [rounded(r, step) for r in readings]
+    if name == "D":
+        return near_d(step, readings)
+    if name == "E8-glue":
+        return near_e8_by_glue(step, readings)
+    return near_by_words({"D-words": even, "E8-words": reed_muller}[name], step, readings)
 
 
 def best(name, step, readings):
@@ -47,11 +83,15 @@ def point_answer(name, words):
     readings = [signed(w) for w in words[1:]]
     if step is None or None in readings:
         return "unreadable"
-    if not 1 <= len(readings) <= 32:
+    reading_limit, step_limit = (2**30 - 2**19, 2**19) if name == "E8-glue" else (2**30, 2**20)
+    if name.startswith("E8"):
+        if len(readings) != 8:
+            return "refused 2"
+    elif not 1 <= len(readings) <= 32:
         return "refused 1"
-    if any(abs(r) > 2**30 for r in readings):
+    if any(abs(r) > reading_limit for r in readings):
         return "refused 3"
-    if not 1 <= step <= 2**20:
+    if not 1 <= step <= step_limit:
         return "refused 4"
     point = nearest(name, step, readings)
     if len(readings) <= 4:
@@ -181,7 +221,7 @@ def unsigned(word):
 
 def answer(line):
     name, *words = line.split() or [""]
-    if name in ("Z", "D"):
+    if name in ("Z", "D", "D-words", "E8-glue", "E8-words"):
         return point_answer(name, words)
     if name in ("universe", "even", "reed-muller"):
         return code_answer(name, words)

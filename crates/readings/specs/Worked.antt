@@ -1,14 +1,16 @@
 -- Readings and gains worked out by hand; the readings all at the step 10.
-use Rattle.std.specs.Prelude.{◌≡◌, ℕ, List, [], ◌∷◌, length, ℤ, pos, negsuc, Ok}
+use Rattle.std.specs.Prelude.{◌≡◌, ℕ, List, [], ◌∷◌, length, replicate, ℤ, pos, negsuc, Ok}
 use Rattle.std.specs.List.{AllByRecursion}
 use Rattle.integers.specs.Nearest.{nearest}
-use Rattle.finders.specs.PointFinders.{find_answer, find_place}
+use Rattle.finders.specs.Meanings.{Meaning}
+use Rattle.finders.specs.PointFinders.{PointFit, find_answer, find_place}
 use Rattle.finders.specs.Rounding.{turned}
 use Rattle.finders.specs.WordFinders.{find_answer as find_word}
 use Rattle.codes.specs.EvenWeight.{even_weight}
 use Rattle.codes.specs.ReedMuller.{reed_muller}
 use Rattle.code_layers.specs.Glue.{glued}
 use Rattle.lattices.specs.LatticeD.{lattice_d}
+use Rattle.lattice_layers.specs.E8.{e8_by_glue}
 
 pub data Worked : Type 0 where
   -- a reading and the number that it is rounded to
@@ -17,6 +19,8 @@ pub data Worked : Type 0 where
   turns : ℤ → ℤ → Worked
   -- readings, and the point of D and the squared distance that are found
   finds_d : List ℤ → List ℤ → ℕ → Worked
+  -- the same of E8 by glue
+  finds_e8_by_glue : List ℤ → List ℤ → ℕ → Worked
   -- gains, and the word of even weight and the correlation that are found
   finds_even : List ℤ → ℕ → ℤ → Worked
   -- m, gains, and the word of the Reed-Muller code of 2^m cells and the correlation that are found
@@ -27,11 +31,16 @@ pub data Worked : Type 0 where
 abbrev pub step : ℕ
 step = 10
 
--- by the definitions that the contracts of the library use; the place holds the readings before
+-- the readings are answered this point at this squared distance; the place holds the readings before
+abbrev pub FindsPoint : Meaning PointFit → List ℤ → List ℤ → ℕ → Type 0
+FindsPoint M rs xs d = (find_answer M rs step rs ≡ Ok d) × (find_place M rs step rs ≡ xs)
+
+-- by the definitions that the contracts of the library use
 abbrev pub Holds : Worked → Type 0
 Holds (rounds r x) = nearest step r ≡ x
 Holds (turns r x) = turned step r ≡ x
-Holds (finds_d rs xs d) = (find_answer (lattice_d (length rs)) rs step rs ≡ Ok d) × (find_place (lattice_d (length rs)) rs step rs ≡ xs)
+Holds (finds_d rs xs d) = FindsPoint (lattice_d (length rs)) rs xs d
+Holds (finds_e8_by_glue rs xs d) = FindsPoint e8_by_glue rs xs d
 Holds (finds_even gs w c) = find_word (even_weight (length gs)) gs ≡ Ok (w, c)
 Holds (finds_reed_muller m gs w c) = find_word (reed_muller m) gs ≡ Ok (w, c)
 Holds (finds_glued_even ws gs w c) = find_word (glued ws (even_weight (length gs))) gs ≡ Ok (w, c)
@@ -47,6 +56,8 @@ worked =
     ∷ turns (negsuc 9) (negsuc 1)
     ∷ turns (pos 0) (pos 1)
     ∷ finds_d (pos 10 ∷ pos 0 ∷ pos 0 ∷ pos 0 ∷ []) (pos 2 ∷ pos 0 ∷ pos 0 ∷ pos 0 ∷ []) 100
+    ∷ finds_e8_by_glue (replicate 8 (pos 5)) (replicate 8 (pos 0)) 200
+    ∷ finds_e8_by_glue (replicate 8 (pos 10)) (replicate 8 (pos 1)) 0
     ∷ finds_even (pos 0 ∷ pos 0 ∷ negsuc 3 ∷ pos 1 ∷ []) 5 (pos 5)
     ∷ finds_reed_muller 2 (pos 1 ∷ pos 1 ∷ pos 1 ∷ negsuc 0 ∷ []) 0 (pos 2)
     ∷ finds_glued_even (1 ∷ []) (negsuc 2 ∷ pos 2 ∷ []) 1 (pos 5)

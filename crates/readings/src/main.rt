@@ -9,18 +9,24 @@ use codes::reed_muller::ReedMuller;
 use finders::points::PointFinder;
 use finders::rounding::round;
 use finders::words::WordFinder;
+use lattice_layers::e8::e8_by_glue;
 use lattices::lattice_d::LatticeD;
 use std::io;
 use worked::all_worked_readings_hold;
 
 const STEP: u32 = 10;
 
-fn print_point(rt: &impl Print, readings: &[i32; 4]) -> io::Result<()> {
-    let mut place = [0; 4];
+fn print_point<const N: usize>(
+    rt: &impl Print,
+    name: &str,
+    lattice: &impl PointFinder,
+    readings: &[i32; N],
+) -> io::Result<()> {
+    let mut place = [0; N];
     // each case prints a line of its own
-    match LatticeD::new(4).find(readings, STEP, &mut place) {
-        Ok(distance) => println!(rt; "D of {readings:?} is {place:?} at {distance}"),
-        Err(refusal) => println!(rt; "D of {readings:?} is {refusal}"),
+    match lattice.find(readings, STEP, &mut place) {
+        Ok(distance) => println!(rt; "{name} of {readings:?} is {place:?} at {distance}"),
+        Err(refusal) => println!(rt; "{name} of {readings:?} is {refusal}"),
     }
 }
 
@@ -46,7 +52,10 @@ fn main(rt: HostRuntime) -> io::Result<()> {
         let number = round(reading, STEP).other_way();
         println!(rt; "{reading} the other way is {number}")?;
     }
-    print_point(&rt, &[10, 0, 0, 0])?;
+    print_point(&rt, "D", &LatticeD::new(4), &[10, 0, 0, 0])?;
+    let e8 = e8_by_glue();
+    print_point(&rt, "E8 by glue", &e8, &[5; 8])?;
+    print_point(&rt, "E8 by glue", &e8, &[10; 8])?;
     print_word(&rt, "EvenWeight", &EvenWeight::new(4), &[0, 0, -4, 1])?;
     print_word(&rt, "ReedMuller 2", &ReedMuller::new(2), &[1, 1, 1, -1])?;
     let glued = Glue::new(EvenWeight::new(2), &[1]);
