@@ -10,26 +10,23 @@ use Rattle.finders.specs.Sizes.{in_range}
 use Rattle.finders.specs.Words.{correlation}
 use Rattle.finders.specs.WordFinders.{WordFit, WordLaws, Lawful, Asked, SameFit, Same}
 use Rattle.finders.proofs.Fitness.{unfit_unless_keeps, unfit_unless_agrees}
-use Rattle.finders.proofs.Within.{within_take, within_drop, within_wider, range}
+use Rattle.finders.proofs.Within.{within_front, within_back, range}
 use Rattle.code_layers.specs.Parts.{front, back}
 use Rattle.code_layers.specs.PartsLaws.{correlation_parts, correlation_joined}
 use Rattle.code_layers.specs.Join.{joined_fit, joined}
 
 module _ (m n : WordFit) (l : WordLaws m) (k : WordLaws n) where
   module _ (gs : List ℤ) (a : Asked (joined_fit m n) gs) where
-    abbrev limit : ℕ
-    limit = min m.gain_limit n.gain_limit
-
     pub asked_first : Asked m (take m.width gs)
     asked_first = record {
       as_wide = length-take-le m.width gs (omega (arith, a.as_wide));
-      gains_within = within_wider limit m.gain_limit (take m.width gs) (omega arith) (within_take limit m.width gs a.gains_within);
+      gains_within = within_front m.gain_limit n.gain_limit m.width gs a.gains_within;
     }
 
     pub asked_second : Asked n (drop m.width gs)
     asked_second = record {
       as_wide = rw length-drop (omega (arith, a.as_wide));
-      gains_within = within_wider limit n.gain_limit (drop m.width gs) (omega arith) (within_drop limit m.width gs a.gains_within);
+      gains_within = within_back m.gain_limit n.gain_limit m.width gs a.gains_within;
     }
 
     abbrev pub low : ℕ

@@ -2,6 +2,7 @@ pub mod Correlation
 pub mod Distances
 pub mod PickSizes
 pub mod Within
+pub mod Writing
 pub mod Digits
 pub mod Fitness
 pub mod Found

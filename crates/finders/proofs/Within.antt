@@ -2,7 +2,7 @@
 use Rattle.std.specs.Bool.{MatchBool}
 use Rattle.std.proofs.Math.Bool.{and-false}
 use Rattle.std.specs.List.{AllWithin, HoldsAt}
-use Rattle.std.proofs.Common.{Bool, sym, ◌≡◌, ℕ, zero, suc, ◌<◌, ◌≤◌, true, false, leb, List, [], ◌∷◌, ◌++◌, length, get_or, take, drop, ℤ, pos, nat_abs, refl, arith}
+use Rattle.std.proofs.Common.{Bool, sym, ◌≡◌, ℕ, zero, suc, ◌<◌, ◌≤◌, true, false, leb, List, [], ◌∷◌, ◌++◌, length, min, get_or, take, drop, ℤ, pos, nat_abs, refl, arith}
 use Rattle.std.proofs.lemmas.Bool.{le-leb, lt-leb, and_parts, leb-true}
 use Rattle.finders.specs.Points.{within}
 use Rattle.finders.specs.Sizes.{in_range}
@@ -39,6 +39,13 @@ pub within_drop : (limit n : ℕ) (zs : List ℤ) → within limit zs ≡ true �
 within_drop limit zero zs h = h
 within_drop limit (suc n) [] h = refl
 within_drop limit (suc n) (z ∷ zs) h = within_drop limit n zs (and_parts (leb (nat_abs z) limit) (within limit zs) h).1
+
+-- parts that are within the smaller of two limits are within each
+pub within_front : (k l n : ℕ) (zs : List ℤ) → within (min k l) zs ≡ true → within k (take n zs) ≡ true
+within_front k l n zs h = within_wider (min k l) k (take n zs) (omega arith) (within_take (min k l) n zs h)
+
+pub within_back : (k l n : ℕ) (zs : List ℤ) → within (min k l) zs ≡ true → within l (drop n zs) ≡ true
+within_back k l n zs h = within_wider (min k l) l (drop n zs) (omega arith) (within_drop (min k l) n zs h)
 
 pub within_append : (limit : ℕ) (xs ys : List ℤ) → within limit xs ≡ true → within limit ys ≡ true → within limit (xs ++ ys) ≡ true
 within_append limit [] ys h k = k

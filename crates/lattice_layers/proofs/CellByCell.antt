@@ -1,8 +1,7 @@
 -- One cell more in a loop over the readings.
-use Rattle.std.proofs.Common.{◌≡◌, ℕ, ◌+◌, ◌*◌, ◌/◌, ◌%◌, ◌^◌, ◌<◌, ◌≤◌, true, List, ◌∷◌, [], ◌++◌, length, map, get_or, set, take, drop, ℤ, pos, nat_abs, sym, ap, ap₂, ◌∙◌, append_assoc, arith}
-use Rattle.std.proofs.lemmas.Grind.{drop_more_same}
+use Rattle.std.proofs.Common.{◌≡◌, ℕ, ◌+◌, ◌*◌, ◌/◌, ◌%◌, ◌^◌, ◌<◌, ◌≤◌, true, List, ◌∷◌, [], ◌++◌, length, get_or, set, take, drop, ℤ, pos, nat_abs, sym, ap, ◌∙◌, append_assoc, arith}
 use Rattle.std.proofs.lemmas.Int.{ints}
-use Rattle.std.proofs.lemmas.List.{take_more_set, map_more, drop-map, drop-set-lt, at_drop_more}
+use Rattle.std.proofs.lemmas.List.{take_more_set, at_drop_more}
 use Rattle.integers.specs.Nearest.{residue}
 use Rattle.finders.specs.Points.{distance, within}
 use Rattle.finders.proofs.Distances.{distance_small}
@@ -19,14 +18,6 @@ pub reading_small : (rs : List ℤ) (i : ℕ) → within (2 ^ 30) rs ≡ true �
 reading_small rs i w h = rw (reading_is rs i w h) (within_at (2 ^ 30) rs i w h)
 
 module _ (rs place : List ℤ) (i : ℕ) (x : ℤ) (here : i < length rs) where
-  -- what is written at each reading is f of it
-  pub written_more : (f : ℤ → ℤ) → i < length place → x ≡ f (get_or rs i (pos 0)) → take i place ≡ map f (take i rs) → take (i + 1) (set place i x) ≡ map f (take (i + 1) rs)
-  written_more f room e done = take_more_set place i x room ∙ ap₂ (λ (u : List ℤ) (v : ℤ). u ++ v ∷ []) done e ∙ sym (map_more f rs i (pos 0) here)
-
-  -- what stands at each reading that is left is f of it
-  pub left_more : (f : ℤ → ℤ) → drop i place ≡ map f (drop i rs) → drop (i + 1) (set place i x) ≡ map f (drop (i + 1) rs)
-  left_more f left = drop-set-lt (i + 1) place i x (omega arith) ∙ drop_more_same place (map f rs) i (left ∙ sym (drop-map f i rs)) ∙ drop-map f (i + 1) rs
-
   -- the number of the next digit is written
   pub point_more : (w q : ℕ) (whole : List ℤ) → i < length place → x ≡ nearest_of (w % 2) q (get_or rs i (pos 0)) → take i place ++ with_parities w q (drop i rs) ≡ whole
       → take (i + 1) (set place i x) ++ with_parities (w / 2) q (drop (i + 1) rs) ≡ whole

@@ -10,9 +10,10 @@ use Rattle.finders.specs.Sizes.{in_range}
 use Rattle.finders.specs.PointFinders.{PointFit, Lawful, width_of, shape_of, find_checked, find_answer, test_checked, Contains}
 use Rattle.finders.proofs.Fitness.{not_err}
 use Rattle.finders.proofs.GrantedPoints.{shape_passed, shape_told, find_asked, found_at, test_asked, contains_tells}
+use Rattle.finders.proofs.Within.{within_front, within_back}
 use Rattle.lattice_layers.specs.Join.{joined_fit, joined}
 use Rattle.finders.proofs.PickSizes.{pick_is_near}
-use Rattle.lattice_layers.specs.JoinLaws.{within_front, within_back, asked_first, asked_second, first_wide, distance_joined}
+use Rattle.lattice_layers.specs.JoinLaws.{asked_first, asked_second, first_wide, distance_joined}
 
 -- both parts are found, at distances that are small, and the whole is found at their sum
 pub record Parts (first second whole : Result ℕ Refusal) : Type 0 where

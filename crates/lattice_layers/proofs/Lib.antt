@@ -2,7 +2,6 @@ pub mod EvenCell
 pub mod CellByCell
 pub mod Gathering
 pub mod WordsBelow
-pub mod MappedInPlace
 pub mod Multiples
 pub mod Scaling
 pub mod Joining

@@ -1,15 +1,15 @@
 -- The laws of joined points: each part is asked for its readings, and the distances of the parts add up.
-use Rattle.std.specs.Prelude.{◌≡◌, ℕ, zero, suc, ◌+◌, ◌≤◌, true, List, [], ◌∷◌, ◌++◌, length, take, drop, ℤ, min}
+use Rattle.std.specs.Prelude.{◌≡◌, ℕ, zero, suc, ◌+◌, ◌≤◌, List, [], ◌∷◌, ◌++◌, length, take, drop, ℤ, min}
 use Rattle.std.proofs.Common.{sym, refl, ap₂, arith}
 use Rattle.std.proofs.Math.Seq.{take-append_seam, drop-append_seam}
 use Rattle.std.proofs.lemmas.List.{length-take, length-take-le, length-drop}
 use Rattle.finders.specs.declared.refusals.Refusal.TheVariants.{Width}
 use Rattle.finders.specs.Meanings.{Meaning, fit, unfit}
 use Rattle.finders.specs.Sizes.{in_range}
-use Rattle.finders.specs.Points.{distance, SmallResidues, within}
+use Rattle.finders.specs.Points.{distance, SmallResidues}
 use Rattle.finders.specs.PointFinders.{PointFit, PointLaws, Lawful, Asked, SameFit, Same}
 use Rattle.finders.proofs.Fitness.{unfit_unless_keeps, unfit_unless_agrees}
-use Rattle.finders.proofs.Within.{within_take, within_drop, within_wider, range}
+use Rattle.finders.proofs.Within.{within_front, within_back, range}
 use Rattle.lattice_layers.specs.Join.{joined_fit, joined}
 
 -- ---- a point in two parts
@@ -43,13 +43,6 @@ small_joined q (suc n) [] (z ∷ x) y e h k = tt
 small_joined q (suc n) (r ∷ rs) (z ∷ x) y e h k = (h.0, small_joined q n rs x y (omega arith) h.1 k)
 
 -- ---- the laws
-
--- what holds of the smaller limit holds of each
-pub within_front : (k l n : ℕ) (zs : List ℤ) → within (min k l) zs ≡ true → within k (take n zs) ≡ true
-within_front k l n zs h = within_wider (min k l) k (take n zs) (omega arith) (within_take (min k l) n zs h)
-
-pub within_back : (k l n : ℕ) (zs : List ℤ) → within (min k l) zs ≡ true → within l (drop n zs) ≡ true
-within_back k l n zs h = within_wider (min k l) l (drop n zs) (omega arith) (within_drop (min k l) n zs h)
 
 module _ (m n : PointFit) (l : PointLaws m) (k : PointLaws n) where
   module _ (rs : List ℤ) (q : ℕ) (a : Asked (joined_fit m n) rs q) where

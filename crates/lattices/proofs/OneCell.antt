@@ -1,6 +1,6 @@
 -- One cell as the machine rounds it, in values of 32 bits, and one cell more in the loop.
-use Rattle.std.proofs.Common.{◌≡◌, ℕ, ◌+◌, ◌*◌, ◌^◌, ◌<◌, ◌≤◌, max, List, [], ◌∷◌, ◌++◌, length, get_or, take, set, ℤ, pos, nat_abs, sym, ap, ap₂, ◌∙◌, arith, w32, SFits, to_z, of_z}
-use Rattle.std.proofs.lemmas.List.{take_more, take_more_set, length-take, map_more}
+use Rattle.std.proofs.Common.{◌≡◌, ℕ, ◌+◌, ◌*◌, ◌^◌, ◌<◌, ◌≤◌, max, List, [], ◌∷◌, ◌++◌, length, get_or, take, ℤ, pos, nat_abs, sym, ap, ap₂, ◌∙◌, arith, w32, SFits, to_z, of_z}
+use Rattle.std.proofs.lemmas.List.{take_more, length-take, map_more}
 use Rattle.std.proofs.lemmas.Int.{to_z-of_z}
 use Rattle.integers.specs.Nearest.{nearest, residue}
 use Rattle.finders.specs.Points.{distance}
@@ -27,9 +27,6 @@ round_told q z x s n h f g e d a =
 module _ (q : ℕ) (rs : List ℤ) (i : ℕ) (here : i < length rs) where
   rounded_more : rounded q (take (i + 1) rs) ≡ rounded q (take i rs) ++ nearest q (get_or rs i (pos 0)) ∷ []
   rounded_more = map_more (nearest q) rs i (pos 0) here
-
-  pub point_more : (place : List ℤ) (x : ℤ) → i < length place → x ≡ nearest q (get_or rs i (pos 0)) → take i place ≡ rounded q (take i rs) → take (i + 1) (set place i x) ≡ rounded q (take (i + 1) rs)
-  point_more place x room e f = take_more_set place i x room ∙ ap₂ (λ (u : List ℤ) (v : ℤ). u ++ v ∷ []) f e ∙ sym rounded_more
 
   pub distance_more : (d n : ℕ) → n ≡ left_over q (get_or rs i (pos 0)) → d ≡ distance q (take i rs) (rounded q (take i rs)) → d + n * n ≡ distance q (take (i + 1) rs) (rounded q (take (i + 1) rs))
   distance_more d n e f =

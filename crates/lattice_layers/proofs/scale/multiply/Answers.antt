@@ -1,5 +1,5 @@
 use Rattle.std.proofs.Common.{◌≤◌, ◌+◌, ◌^◌, get_or, pos, ◌*ℤ◌, ℤ, nat_abs, SFits, w32, rules, arith}
-use Rattle.lattice_layers.proofs.MappedInPlace.{next_same, mapped_more}
+use Rattle.finders.proofs.Writing.{next_same, mapped_more}
 use Rattle.lattice_layers.proofs.Multiples.{product_small, product_fits, product}
 use Rattle.lattice_layers.proofs.scale.multiply.Goals as goal
 

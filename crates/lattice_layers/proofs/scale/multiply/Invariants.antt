@@ -1,4 +1,4 @@
-use Rattle.lattice_layers.proofs.MappedInPlace.{Mapped}
+use Rattle.finders.proofs.Writing.{Mapped}
 use Rattle.std.proofs.Common.{pos, ◌*ℤ◌}
 use Rattle.lattice_layers.proofs.scale.multiply.Given as goal
 

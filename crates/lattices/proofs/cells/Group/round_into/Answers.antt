@@ -1,8 +1,10 @@
 use Rattle.std.proofs.Common.{◌≡◌, ℕ, ◌<◌, ◌≢◌, length, get_or, take, ap, ◌∙◌, pos, arith, w32, SFits, rules, ◌+◌, get_or-set_other}
 use Rattle.std.proofs.lemmas.Int.{to_z-of_z}
+use Rattle.integers.specs.Nearest.{nearest}
 use Rattle.finders.specs.Points.{distance as distance_of}
 use Rattle.lattices.specs.LatticeZ.{rounded}
-use Rattle.lattices.proofs.OneCell.{Told, round_told, point_more, distance_more, distance_fits}
+use Rattle.finders.proofs.Writing.{written_more}
+use Rattle.lattices.proofs.OneCell.{Told, round_told, distance_more, distance_fits}
 use Rattle.lattices.proofs.cells.Group.round_into.Goals as goal
 
 here : (c : goal.After-square-distance) → c.loop-coordinate.coordinate-index < length c.args.self.now.readings.now
@@ -30,7 +32,7 @@ pub loop-coordinate-preserved : goal.loop-coordinate-preserved
 loop-coordinate-preserved c =
     let g : SFits w32 c.round-cell.result.number = search rules in
     record {
-      done = point_more c.args.self.now.step c.args.self.now.readings.now c.loop-coordinate.coordinate-index (here c) c.loop-coordinate.place _ (omega arith) (to_z-of_z w32 _ g ∙ (cell c).number) c.loop-coordinate.invariant.done;
+      done = written_more (nearest c.args.self.now.step) c.args.self.now.readings.now c.loop-coordinate.place c.loop-coordinate.coordinate-index _ (pos 0) (here c) (omega arith) (to_z-of_z w32 _ g ∙ (cell c).number) c.loop-coordinate.invariant.done;
       left = λ k h. let other : k ≢ c.loop-coordinate.coordinate-index = omega arith in rw get_or-set_other (c.loop-coordinate.invariant.left k (omega arith));
       distance = more c;
     }

@@ -1,7 +1,8 @@
-use Rattle.std.proofs.Common.{w32, SFits, arith, rules, ◌∙◌}
+use Rattle.std.proofs.Common.{pos, w32, SFits, arith, rules, ◌∙◌}
 use Rattle.std.proofs.lemmas.Int.{to_z-of_z}
+use Rattle.finders.proofs.Writing.{written_more}
 use Rattle.lattice_layers.specs.ConstructionA.{nearest_even, gain}
-use Rattle.lattice_layers.proofs.CellByCell.{reading_is, reading_small, written_more}
+use Rattle.lattice_layers.proofs.CellByCell.{reading_is, reading_small}
 use Rattle.lattice_layers.proofs.construction_a.cells.Group.round_even.Goals as goal
 
 pub even-requires : goal.even-requires
@@ -19,6 +20,6 @@ loop-i-preserved c =
     record {
       long = search rules;
       room = search rules;
-      evens = written_more rs c.loop-i.place i _ here (nearest_even q) (omega (arith, c.loop-i.invariant.long)) (to_z-of_z w32 _ number ∙ (rw same at c.even.ensures.number)) c.loop-i.invariant.evens;
-      gains = written_more rs c.loop-i.gains i _ here (gain q) (omega (arith, c.args.self.now.few_cells, c.loop-i.invariant.room)) (to_z-of_z w32 _ gained ∙ (rw same at c.even.ensures.gain)) c.loop-i.invariant.gains;
+      evens = written_more (nearest_even q) rs c.loop-i.place i _ (pos 0) here (omega (arith, c.loop-i.invariant.long)) (to_z-of_z w32 _ number ∙ (rw same at c.even.ensures.number)) c.loop-i.invariant.evens;
+      gains = written_more (gain q) rs c.loop-i.gains i _ (pos 0) here (omega (arith, c.args.self.now.few_cells, c.loop-i.invariant.room)) (to_z-of_z w32 _ gained ∙ (rw same at c.even.ensures.gain)) c.loop-i.invariant.gains;
     }

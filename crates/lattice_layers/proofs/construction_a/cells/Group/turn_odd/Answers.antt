@@ -2,8 +2,9 @@ use Rattle.std.proofs.Common.{◌≡◌, ◌+◌, ◌*◌, ◌/◌, ◌<◌, ap,
 use Rattle.std.proofs.lemmas.Int.{to_z-of_z}
 use Rattle.std.proofs.lemmas.List.{length-map}
 use Rattle.finders.specs.Points.{distance as distance_of}
+use Rattle.finders.proofs.Writing.{left_more}
 use Rattle.lattice_layers.specs.ConstructionA.{nearest_even, with_parities}
-use Rattle.lattice_layers.proofs.CellByCell.{reading_is, reading_small, left_more, point_more, distance_more, distance_fits}
+use Rattle.lattice_layers.proofs.CellByCell.{reading_is, reading_small, point_more, distance_more, distance_fits}
 use Rattle.lattice_layers.proofs.construction_a.cells.Group.turn_odd.Goals as goal
 use Rattle.lattice_layers.proofs.construction_a.cells.Group.turn_odd.Goals.{After-turned-number}
 
@@ -37,7 +38,7 @@ loop-i-preserved c =
     let f : SFits w32 c.turned-number.result.0 = search rules in
     let room : i < length c.loop-i.place = omega (arith, c.loop-i.auto.place, ap length c.requires.evens, length-map rs (nearest_even q)) in
     record {
-      left = left_more rs c.loop-i.place i _ here (nearest_even q) c.loop-i.invariant.left;
+      left = left_more (nearest_even q) rs c.loop-i.place i _ c.loop-i.invariant.left;
       point = point_more rs c.loop-i.place i _ here c.loop-i.rest q _ room (to_z-of_z w32 _ f ∙ (rw (reading_is rs i s.small_readings here) at c.turned-number.ensures.number)) c.loop-i.invariant.point;
       distance = more (goal.at.loop-i-preserved c).After-turned-number;
     }
