@@ -3,6 +3,7 @@ pub mod Distances
 pub mod PickSizes
 pub mod Within
 pub mod Writing
+pub mod WritingTwo
 pub mod Digits
 pub mod Fitness
 pub mod Found

@@ -2,8 +2,10 @@
 use Rattle.std.specs.Bool.{MatchBool}
 use Rattle.std.proofs.Math.Bool.{and-false}
 use Rattle.std.specs.List.{AllWithin, HoldsAt}
-use Rattle.std.proofs.Common.{Bool, sym, ◌≡◌, ℕ, zero, suc, ◌<◌, ◌≤◌, true, false, leb, List, [], ◌∷◌, ◌++◌, length, min, get_or, take, drop, ℤ, pos, nat_abs, refl, arith}
+use Rattle.std.proofs.Common.{Bool, sym, ◌≡◌, ℕ, zero, suc, ◌+◌, ◌<◌, ◌≤◌, true, false, leb, List, [], ◌∷◌, ◌++◌, length, min, get_or, take, drop, ℤ, pos, ◌+ℤ◌, nat_abs, refl, zero-le, arith}
 use Rattle.std.proofs.lemmas.Bool.{le-leb, lt-leb, and_parts, leb-true}
+use Rattle.std.proofs.lemmas.Int.{ints}
+use Rattle.integers.specs.Sums.{plus, zeros}
 use Rattle.finders.specs.Points.{within}
 use Rattle.finders.specs.Sizes.{in_range}
 
@@ -50,6 +52,18 @@ within_back k l n zs h = within_wider (min k l) l (drop n zs) (omega arith) (wit
 pub within_append : (limit : ℕ) (xs ys : List ℤ) → within limit xs ≡ true → within limit ys ≡ true → within limit (xs ++ ys) ≡ true
 within_append limit [] ys h k = k
 within_append limit (x ∷ xs) ys h k = let p = and_parts (leb (nat_abs x) limit) (within limit xs) h in rw (p.0, within_append limit xs ys p.1 k)
+
+pub within_zeros : (limit n : ℕ) → within limit (zeros n) ≡ true
+within_zeros limit zero = refl
+within_zeros limit (suc n) = rw (le-leb 0 limit zero-le, within_zeros limit n) refl
+
+pub within_plus : (k l : ℕ) (xs ys : List ℤ) → within k xs ≡ true → within l ys ≡ true → within (k + l) (plus xs ys) ≡ true
+within_plus k l [] ys h g = refl
+within_plus k l (x ∷ xs) [] h g = refl
+within_plus k l (x ∷ xs) (y ∷ ys) h g =
+    let p = and_parts (leb (nat_abs x) k) (within k xs) h in
+    let q = and_parts (leb (nat_abs y) l) (within l ys) g in
+    rw (le-leb (nat_abs (x +ℤ y)) (k + l) (omega (arith, ints, leb-true (nat_abs x) k p.0, leb-true (nat_abs y) l q.0)), within_plus k l xs ys p.1 q.1) refl
 
 -- a number of cells that is in range
 pub range : (n : ℕ) → in_range n ≡ true → (1 ≤ n) × (n ≤ 32)

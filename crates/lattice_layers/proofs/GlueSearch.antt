@@ -9,8 +9,9 @@ use Rattle.finders.specs.Meanings.{Meaning}
 use Rattle.finders.specs.PointFinders.{PointFit, find_answer, find_place}
 use Rattle.finders.proofs.FirstNumbers.{chosen_number}
 use Rattle.finders.proofs.Scores.{Little, small, small_decides, no_larger_total, no_larger_chain}
-use Rattle.lattice_layers.specs.Rows.{plus, row_sum}
-use Rattle.lattice_layers.specs.RowLaws.{plus_comm}
+use Rattle.integers.specs.Sums.{plus}
+use Rattle.lattice_layers.specs.Rows.{row_sum}
+use Rattle.integers.proofs.Sums.{plus_comm}
 use Rattle.lattice_layers.specs.Glue.{taken_off}
 use Rattle.lattice_layers.specs.GlueFinds.{Granted, sum_of, nearest_of, score_of, best_of}
 

@@ -1,17 +1,18 @@
 -- Rows as the machine goes through them: one number, or one row, more.
-use Rattle.std.proofs.Common.{◌≡◌, ℕ, zero, suc, ◌+◌, ◌-◌, ◌*◌, ◌/◌, ◌%◌, ◌^◌, ◌<◌, ◌≤◌, Bool, true, eqb, max, List, [], ◌∷◌, ◌++◌, map, length, get_or, set, take, drop, ℤ, pos, ◌+ℤ◌, nat_abs, sym, refl, ap, ◌∙◌, arith, w32, w64, SFits, to_z, of_z}
+use Rattle.std.proofs.Common.{◌≡◌, ℕ, zero, suc, ◌+◌, ◌-◌, ◌*◌, ◌/◌, ◌%◌, ◌^◌, ◌<◌, ◌≤◌, Bool, true, eqb, max, List, [], ◌∷◌, ◌++◌, map, length, get_or, drop, ℤ, ◌+ℤ◌, nat_abs, sym, refl, ap, ◌∙◌, arith, w32, w64, SFits, to_z, of_z}
 use Rattle.std.specs.List.{list_all}
 use Rattle.std.proofs.lemmas.List.Folds.{list_all-map}
-use Rattle.std.proofs.lemmas.Bool.{and_parts, leb-true, eqb-true, ne_eqb}
+use Rattle.std.proofs.lemmas.Bool.{and_parts, eqb-true, ne_eqb}
 use Rattle.std.proofs.lemmas.Int.{to_z-of_z}
-use Rattle.std.proofs.lemmas.List.{at_drop_more, drop_more, drop-set-lt, take_more_set, append_assoc}
+use Rattle.std.proofs.lemmas.List.{at_drop_more}
 use Rattle.integers.specs.Nearest.{residue}
-use Rattle.integers.specs.Sums.{zip_with}
+use Rattle.integers.specs.Sums.{plus, zeros}
 use Rattle.integers.proofs.Order.{fits_nat_abs}
 use Rattle.finders.specs.Points.{within}
-use Rattle.finders.proofs.Within.{within_wider}
-use Rattle.lattice_layers.specs.Rows.{plus, zeros, row_sum, all_as_wide, all_within, largest, reach}
-use Rattle.lattice_layers.specs.RowLaws.{plus_comm, plus_assoc, zeros_plus, length_zeros, length_sum, within_zeros, within_plus}
+use Rattle.finders.proofs.Within.{within_wider, within_zeros, within_plus}
+use Rattle.lattice_layers.specs.Rows.{row_sum, all_as_wide, all_within, largest, reach}
+use Rattle.integers.proofs.Sums.{plus_comm, plus_assoc, zeros_plus, length_zeros}
+use Rattle.lattice_layers.specs.RowLaws.{length_sum}
 
 -- ---- tests of all
 
@@ -42,28 +43,6 @@ left_fits q x y z f g e h =
     let s : SFits w32 (residue q x y) = fits_nat_abs w32 (residue q x y) (omega arith) in
     let t : SFits w64 (residue q x y) = fits_nat_abs w64 (residue q x y) (omega arith) in
     rw (is, to_z-of_z w64 (residue q x y) t) (s, to_z-of_z w32 (residue q x y) s)
-
--- ---- what a function gives of two lists, number by number
-
-module _ (f : ℤ → ℤ → ℤ) where
-  -- what a place holds so far, and what is still to be written
-  abbrev pub written : List ℤ → List ℤ → List ℤ → ℕ → List ℤ
-  written place xs ys i = take i place ++ zip_with f (drop i xs) (drop i ys)
-
-  pub written_more : (place xs ys : List ℤ) (i : ℕ) (z : ℤ) → i < length place → i < length xs → i < length ys → z ≡ f (get_or xs i (pos 0)) (get_or ys i (pos 0)) → written (set place i z) xs ys (i + 1) ≡ written place xs ys i
-  written_more place xs ys i z h k l e =
-      rw (take_more_set place i z h, e, drop_more xs i (pos 0) k, drop_more ys i (pos 0) l) (append_assoc (take i place) (f (get_or xs i (pos 0)) (get_or ys i (pos 0)) ∷ []) _)
-
-  -- the same where the place held the first list
-  pub written_over : (xs ys : List ℤ) (i : ℕ) (z : ℤ) → i < length xs → i < length ys → z ≡ f (get_or xs i (pos 0)) (get_or ys i (pos 0)) → written (set xs i z) (set xs i z) ys (i + 1) ≡ written xs xs ys i
-  written_over xs ys i z h k e = rw (drop-set-lt (i + 1) xs i z (omega arith)) (written_more xs xs ys i z h h k e)
-
-  pub written_within : (limit : ℕ) (place xs ys : List ℤ) (i : ℕ) → i < length place → i < length xs → i < length ys → within limit (written place xs ys i) ≡ true → nat_abs (f (get_or xs i (pos 0)) (get_or ys i (pos 0))) ≤ limit
-  written_within limit [] xs ys i h k l w = absurd (omega arith)
-  written_within limit place [] ys i h k l w = absurd (omega arith)
-  written_within limit place xs [] i h k l w = absurd (omega arith)
-  written_within limit (p ∷ place) (x ∷ xs) (y ∷ ys) zero h k l w = leb-true (nat_abs (f x y)) limit (and_parts _ _ w).0
-  written_within limit (p ∷ place) (x ∷ xs) (y ∷ ys) (suc i) h k l w = written_within limit place xs ys i (omega arith) (omega arith) (omega arith) (and_parts _ _ w).1
 
 -- ---- one row more: `numbers` are those in a row r, which stands at the index i
 

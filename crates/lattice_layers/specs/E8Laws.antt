@@ -6,7 +6,7 @@ use Rattle.std.proofs.Math.Nat.{pow-succ'}
 use lib.Count.{ones}
 use Rattle.std.proofs.lemmas.Int.{ints}
 use Rattle.std.proofs.lemmas.List.{length-map}
-use Rattle.integers.specs.Sums.{sumℤ}
+use Rattle.integers.specs.Sums.{sumℤ, plus}
 use Rattle.finders.specs.PointFinders.{Lawful, Member}
 use Rattle.codes.specs.ReedMuller.{row_word, complement, reed_muller}
 use Rattle.codes.specs.ReedMullerLaws.{reed_muller_lawful}
@@ -16,7 +16,7 @@ use Rattle.lattice_layers.specs.ConstructionA.{parities}
 use Rattle.lattice_layers.specs.ConstructionALaws.{construction_a_lawful}
 use Rattle.lattice_layers.specs.E8.{e8_by_glue, e8_by_words}
 use Rattle.lattice_layers.specs.GlueLaws.{glued_lawful}
-use Rattle.lattice_layers.specs.Rows.{plus, row_sum}
+use Rattle.lattice_layers.specs.Rows.{row_sum}
 use Rattle.lattice_layers.specs.Scale.{times, scaled}
 use Rattle.lattice_layers.specs.ScaleLaws.{scaled_lawful}
 

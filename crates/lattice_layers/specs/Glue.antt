@@ -2,14 +2,14 @@
 use Rattle.std.specs.Prelude.{◌≡◌, ℕ, ◌-◌, ◌*◌, ◌^◌, ◌<◌, List, map, length, ℤ, nat_le, Result, Ok, Err}
 use Rattle.std.specs.List.{range_with_len}
 use Rattle.integers.specs.Nearest.{residue}
-use Rattle.integers.specs.Sums.{zip_with}
+use Rattle.integers.specs.Sums.{zip_with, plus}
 use Rattle.finders.specs.declared.refusals.Refusal.{Refusal}
 use Rattle.finders.specs.declared.refusals.Refusal.TheVariants.{GlueCount, Length, Entry, Exhausted}
 use Rattle.finders.specs.Choice.{first_best, no_larger}
 use Rattle.finders.specs.Meanings.{Meaning, fit, unfit, unfit_unless}
 use Rattle.finders.specs.PointFinders.{PointFit}
 use Rattle.finders.specs.Points.{distance}
-use Rattle.lattice_layers.specs.Rows.{plus, row_sum, all_as_wide, all_within, reach}
+use Rattle.lattice_layers.specs.Rows.{row_sum, all_as_wide, all_within, reach}
 
 -- the readings with q times p taken off, which is what the point p leaves of them
 abbrev pub taken_off : ℕ → List ℤ → List ℤ → List ℤ

@@ -14,8 +14,10 @@ use Rattle.finders.proofs.Fitness.{not_err, told_at}
 use Rattle.finders.proofs.GrantedPoints.{Shaped, shape_passed, shape_told, find_asked, found_at, test_asked, contains_tells, tells_contains}
 use Rattle.finders.proofs.PickSizes.{near_small}
 use Rattle.finders.proofs.Within.{within_wider}
-use Rattle.lattice_layers.specs.Rows.{plus, row_sum, all_as_wide, all_within, reach}
-use Rattle.lattice_layers.specs.RowLaws.{length_plus, length_sum}
+use Rattle.integers.specs.Sums.{plus}
+use Rattle.lattice_layers.specs.Rows.{row_sum, all_as_wide, all_within, reach}
+use Rattle.integers.proofs.Sums.{length_plus}
+use Rattle.lattice_layers.specs.RowLaws.{length_sum}
 use Rattle.lattice_layers.specs.Glue.{taken_off, nearest_in, score, best_sum, glued_fit, glued, glued_by}
 use Rattle.lattice_layers.specs.GlueLaws.{distance_moved, residues_moved, length_taken_off, within_below, asked_below}
 

@@ -9,7 +9,7 @@ use Rattle.integers.specs.Nearest.{residue}
 use Rattle.integers.specs.Ring.{◌⊕◌, ◌⊖◌, ◌⊗◌}
 use Rattle.integers.proofs.Order.{nat_abs-*ℤ}
 use Rattle.integers.proofs.Ring.{ring4}
-use Rattle.integers.proofs.Sums.{length_zip_with}
+use Rattle.integers.proofs.Sums.{length_zip_with, zeros_plus, length_plus}
 use Rattle.finders.specs.declared.refusals.Refusal.{Refusal}
 use Rattle.finders.specs.declared.refusals.Refusal.TheVariants.{GlueCount, Length, Entry, Exhausted}
 use Rattle.finders.specs.Choice.{no_larger, IsFirst}
@@ -21,8 +21,9 @@ use Rattle.finders.proofs.Found.{same_itself}
 use Rattle.finders.proofs.FirstNumbers.{best_number, first_best_alike}
 use Rattle.finders.proofs.Firsts.{first_best_is}
 use Rattle.finders.proofs.Scores.{no_larger_total, no_larger_chain, small_decides}
-use Rattle.lattice_layers.specs.Rows.{plus, zeros, row_sum, all_as_wide, all_within, reach}
-use Rattle.lattice_layers.specs.RowLaws.{zeros_plus, length_plus, length_sum, within_reach}
+use Rattle.integers.specs.Sums.{plus, zeros}
+use Rattle.lattice_layers.specs.Rows.{row_sum, all_as_wide, all_within, reach}
+use Rattle.lattice_layers.specs.RowLaws.{length_sum, within_reach}
 use Rattle.lattice_layers.specs.Table.{all_short, table_held}
 use Rattle.lattice_layers.specs.Glue.{taken_off, sum_numbers, nearest_in, score, best_sum, glued_fit, glued, glued_by}
 

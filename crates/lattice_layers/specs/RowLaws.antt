@@ -1,43 +1,15 @@
 -- The laws of sums of rows: how long they are, how large, and which rows are in them.
-use Rattle.std.specs.Prelude.{◌≡◌, ℕ, zero, suc, ◌+◌, ◌*◌, ◌/◌, ◌%◌, ◌^◌, ◌<◌, ◌≤◌, true, false, cond, List, [], ◌∷◌, length, ℤ, pos, ◌+ℤ◌, ◌==◌, nat_le, unsigned_abs, slice_index_or, refl}
+use Rattle.std.specs.Prelude.{◌≡◌, ℕ, zero, suc, ◌+◌, ◌*◌, ◌/◌, ◌%◌, ◌^◌, ◌<◌, ◌≤◌, true, false, cond, List, [], ◌∷◌, length, ℤ, ◌==◌, nat_le, unsigned_abs, slice_index_or, refl}
 use Rattle.std.proofs.Math.Nat.{pow-succ'}
-use Rattle.std.proofs.Common.{sym, ap, ◌∙◌, zero-le, arith}
-use lib.IntN.{+ℤ_assoc, +ℤ_comm, +ℤ_idl}
-use Rattle.std.proofs.lemmas.Int.{ints}
+use Rattle.std.proofs.Common.{sym, ap, ◌∙◌, arith}
 use Rattle.std.proofs.lemmas.Bool.{and_parts, leb-true, le-leb, eqb-true}
-use Rattle.std.proofs.lemmas.List.{length-replicate}
-use Rattle.integers.proofs.Sums.{length_zip_with}
+use Rattle.integers.proofs.Sums.{plus_comm, plus_assoc, zeros_plus, length_plus, length_zeros}
 use Rattle.finders.specs.Points.{within}
 use Rattle.finders.specs.Words.{digit}
 use Rattle.finders.proofs.Correlation.{half_above}
-use Rattle.finders.proofs.Within.{within_wider}
-use Rattle.lattice_layers.specs.Rows.{plus, zeros, row_sum, all_as_wide, all_within, largest, reach}
-
--- ---- points added
-
-pub plus_comm : (xs ys : List ℤ) → plus xs ys ≡ plus ys xs
-plus_comm [] [] = refl
-plus_comm [] (y ∷ ys) = refl
-plus_comm (x ∷ xs) [] = refl
-plus_comm (x ∷ xs) (y ∷ ys) = rw (+ℤ_comm x y) (ap (λ (zs : List ℤ). (y +ℤ x) ∷ zs) (plus_comm xs ys))
-
-pub plus_assoc : (xs ys zs : List ℤ) → plus (plus xs ys) zs ≡ plus xs (plus ys zs)
-plus_assoc [] ys zs = refl
-plus_assoc (x ∷ xs) [] zs = refl
-plus_assoc (x ∷ xs) (y ∷ ys) [] = refl
-plus_assoc (x ∷ xs) (y ∷ ys) (z ∷ zs) = rw (+ℤ_assoc x y z) (ap (λ (ws : List ℤ). (x +ℤ (y +ℤ z)) ∷ ws) (plus_assoc xs ys zs))
-
-pub zeros_plus : (n : ℕ) (xs : List ℤ) → length xs ≡ n → plus (zeros n) xs ≡ xs
-zeros_plus zero [] e = refl
-zeros_plus zero (x ∷ xs) e = absurd (omega arith)
-zeros_plus (suc n) [] e = absurd (omega arith)
-zeros_plus (suc n) (x ∷ xs) e = rw (+ℤ_idl x) (ap (λ (ys : List ℤ). x ∷ ys) (zeros_plus n xs (omega arith)))
-
-pub length_plus : (xs ys : List ℤ) → length xs ≡ length ys → length (plus xs ys) ≡ length xs
-length_plus = length_zip_with ◌+ℤ◌
-
-pub length_zeros : (n : ℕ) → length (zeros n) ≡ n
-length_zeros n = length-replicate n (pos 0)
+use Rattle.finders.proofs.Within.{within_wider, within_zeros, within_plus}
+use Rattle.integers.specs.Sums.{plus, zeros}
+use Rattle.lattice_layers.specs.Rows.{row_sum, all_as_wide, all_within, largest, reach}
 
 -- ---- how long a sum is
 
@@ -53,18 +25,6 @@ length_sum n (r ∷ rows) j h =
     length_plus (cond (j % 2 == 0) (zeros n) r) (row_sum n rows (j / 2)) (here ∙ sym (length_sum n rows (j / 2) p.1)) ∙ here
 
 -- ---- how large its numbers are
-
-pub within_zeros : (limit n : ℕ) → within limit (zeros n) ≡ true
-within_zeros limit zero = refl
-within_zeros limit (suc n) = rw (le-leb 0 limit zero-le, within_zeros limit n) refl
-
-pub within_plus : (k l : ℕ) (xs ys : List ℤ) → within k xs ≡ true → within l ys ≡ true → within (k + l) (plus xs ys) ≡ true
-within_plus k l [] ys h g = refl
-within_plus k l (x ∷ xs) [] h g = refl
-within_plus k l (x ∷ xs) (y ∷ ys) h g =
-    let p = and_parts (nat_le (unsigned_abs x) k) (within k xs) h in
-    let q = and_parts (nat_le (unsigned_abs y) l) (within l ys) g in
-    rw (le-leb (unsigned_abs (x +ℤ y)) (k + l) (omega (arith, ints, leb-true (unsigned_abs x) k p.0, leb-true (unsigned_abs y) l q.0)), within_plus k l xs ys p.1 q.1) refl
 
 pub within_largest : (zs : List ℤ) → within (largest zs) zs ≡ true
 within_largest [] = refl

@@ -1,16 +1,8 @@
 -- Rows of numbers and their sums.
-use Rattle.std.specs.Prelude.{ℕ, ◌/◌, ◌%◌, cond, Bool, List, [], ◌∷◌, map, length, replicate, ℤ, pos, ◌+ℤ◌, ◌==◌, max, unsigned_abs}
+use Rattle.std.specs.Prelude.{ℕ, ◌/◌, ◌%◌, cond, Bool, List, [], ◌∷◌, map, length, ℤ, ◌==◌, max, unsigned_abs}
 use Rattle.std.specs.List.{list_all}
-use Rattle.integers.specs.Sums.{sumℕ, zip_with}
+use Rattle.integers.specs.Sums.{sumℕ, plus, zeros}
 use Rattle.finders.specs.Points.{within}
-
--- coordinate by coordinate
-abbrev pub plus : List ℤ → List ℤ → List ℤ
-plus = zip_with ◌+ℤ◌
-
--- the row of n zeros
-abbrev pub zeros : ℕ → List ℤ
-zeros n = replicate n (pos 0)
 
 -- the sum of those rows of n numbers whose bit in j is 1, where the first of them has the lowest bit
 abbrev pub row_sum : ℕ → List (List ℤ) → ℕ → List ℤ

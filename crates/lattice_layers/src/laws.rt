@@ -1,6 +1,6 @@
 ghost use Rattle.std.specs.Prelude.{◌≡◌, ℕ, ◌+◌, ◌-◌, ◌*◌, ◌%◌, ◌^◌, ◌<◌, ◌≤◌, true, ◌↔◌, List, [], ◌∷◌, ◌++◌, map, length, take, drop, ℤ, pos, ◌+ℤ◌, ◌-ℤ◌, ◌*ℤ◌, ◌≤ℤ◌, Ok, slice_index_or, unsigned_abs};
 ghost use Rattle.integers.specs.Nearest.{residue};
-ghost use Rattle.integers.specs.Sums.{sumℤ};
+ghost use Rattle.integers.specs.Sums.{sumℤ, plus, zeros};
 ghost use Rattle.finders.specs.Choice.{IsFirst, no_larger};
 ghost use Rattle.finders.specs.Points.{distance, within};
 ghost use Rattle.finders.specs.PointFinders.{Member, OneSet, Same, shape_of};
@@ -11,7 +11,7 @@ ghost use Rattle.lattices.specs.LatticeD.{lattice_d};
 ghost use Rattle.lattice_layers.specs.ConstructionA.{nearest_even, nearest_odd, nearest_of, gain, parities, with_parities, construction_a};
 ghost use Rattle.lattice_layers.specs.Scale.{times, scaled};
 ghost use Rattle.lattice_layers.specs.Join.{joined};
-ghost use Rattle.lattice_layers.specs.Rows.{plus, zeros, row_sum, all_as_wide, largest, reach};
+ghost use Rattle.lattice_layers.specs.Rows.{row_sum, all_as_wide, largest, reach};
 ghost use Rattle.lattice_layers.specs.Glue.{taken_off, sum_numbers, score, best_sum, glued};
 ghost use Rattle.lattice_layers.specs.E8.{e8_by_glue, e8_by_words};
 ghost use Rattle.lattice_layers.specs.E8Laws.{InE8, one_cell_twice, half_ones};

@@ -1,7 +1,8 @@
 ghost use Rattle.std.specs.Prelude.{◌≡◌, ◌^◌, ◌<◌, ◌≤◌, true, length, map, ◌-◌, MatchResult};
 ghost use Rattle.finders.specs.declared.refusals.Refusal.TheVariants.{Length};
 ghost use Rattle.finders.specs.Points.{within};
-ghost use Rattle.lattice_layers.specs.Rows.{plus, all_as_wide, all_within, largest as largest_of, reach as reach_of, row_sum};
+ghost use Rattle.integers.specs.Sums.{plus};
+ghost use Rattle.lattice_layers.specs.Rows.{all_as_wide, all_within, largest as largest_of, reach as reach_of, row_sum};
 
 use finders::checks;
 use finders::points::MOST_CELLS;

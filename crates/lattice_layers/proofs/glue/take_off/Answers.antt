@@ -1,6 +1,7 @@
 use Rattle.std.proofs.Common.{◌≡◌, ◌^◌, get_or, pos, ◌∙◌, arith, rules, w32, w64, SFits, to_z, of_z}
 use Rattle.integers.specs.Nearest.{residue}
-use Rattle.lattice_layers.proofs.RowSteps.{left_fits, written_more, written_within}
+use Rattle.finders.proofs.WritingTwo.{written_more, written_within}
+use Rattle.lattice_layers.proofs.RowSteps.{left_fits}
 use Rattle.lattice_layers.proofs.glue.take_off.Goals as goal
 
 -- what is left of the reading, which fits

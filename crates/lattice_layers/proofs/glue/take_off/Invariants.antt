@@ -1,7 +1,7 @@
 use Rattle.std.proofs.Common.{◌≡◌, length}
 use Rattle.integers.specs.Nearest.{residue}
 use Rattle.lattice_layers.specs.Glue.{taken_off}
-use Rattle.lattice_layers.proofs.RowSteps.{written}
+use Rattle.finders.proofs.WritingTwo.{written}
 use Rattle.lattice_layers.proofs.glue.take_off.Given as goal
 
 abbrev pub invariant-loop-i : goal.invariant-loop-i

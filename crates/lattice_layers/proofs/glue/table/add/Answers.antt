@@ -1,5 +1,6 @@
 use Rattle.std.proofs.Common.{◌≡◌, ◌^◌, ◌-◌, ◌<◌, length, get_or, pos, ◌+ℤ◌, ◌∙◌, arith, rules, w32, SFits, to_z, of_z}
-use Rattle.lattice_layers.proofs.RowSteps.{sum_fits, written_over, written_within}
+use Rattle.finders.proofs.WritingTwo.{written_over, written_within}
+use Rattle.lattice_layers.proofs.RowSteps.{sum_fits}
 use Rattle.lattice_layers.proofs.glue.table.add.Goals as goal
 
 here : (c : goal.After-numbers-1) → c.loop-i.i < length c.loop-i.numbers

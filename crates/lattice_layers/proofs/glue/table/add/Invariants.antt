@@ -1,6 +1,6 @@
 use Rattle.std.proofs.Common.{◌≡◌, ◌+ℤ◌, length}
-use Rattle.lattice_layers.specs.Rows.{plus}
-use Rattle.lattice_layers.proofs.RowSteps.{written}
+use Rattle.integers.specs.Sums.{plus}
+use Rattle.finders.proofs.WritingTwo.{written}
 use Rattle.lattice_layers.proofs.glue.table.add.Given as goal
 
 abbrev pub invariant-loop-i : goal.invariant-loop-i

@@ -1,6 +1,7 @@
 use Rattle.std.proofs.Common.{◌≡◌, ◌*◌, true, map, length, drop}
 use Rattle.finders.specs.Points.{within}
-use Rattle.lattice_layers.specs.Rows.{plus, row_sum}
+use Rattle.integers.specs.Sums.{plus}
+use Rattle.lattice_layers.specs.Rows.{row_sum}
 use Rattle.lattice_layers.specs.Table.{numbers_in, rows_in}
 use Rattle.lattice_layers.proofs.glue.table.Table.write_sum.Given as goal
 
