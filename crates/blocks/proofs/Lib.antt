@@ -1,0 +1,13 @@
+pub mod Balance
+pub mod SenseSizes
+pub mod TallySteps
+pub mod Keeping
+pub mod Deciding
+pub mod SameBlock
+pub mod Padding
+pub mod RunLaws
+pub mod RunSteps
+pub mod AlikeRuns
+pub mod CallLists
+pub mod SumLaws
+pub mod SameFinders
