@@ -6,7 +6,7 @@ use Rattle.std.specs.Borrow.{Bor}
 use Rattle.integers.specs.Sums.{zeros}
 use Rattle.finders.specs.declared.refusals.Refusal.{Refusal}
 use Rattle.finders.specs.declared.refusals.Refusal.TheVariants.{Length, Full, Empty}
-use Rattle.finders.specs.Meanings.{Meaning, checked}
+use Rattle.finders.specs.Meanings.{Meaning, checked, and_then}
 use Rattle.finders.specs.PointFinders.{PointFit, width_of}
 use Rattle.blocks.specs.declared.calls.Call.{Call}
 use Rattle.blocks.specs.declared.calls.Call.TheVariants as call
@@ -56,11 +56,6 @@ EachDecideHasTheLeastTotal M q cs answers =
     AnswersDecide M q (standing_before M q cs i) (slice_get answers i)
 
 -- ---- two runs of the same calls
-
--- one check after the other
-abbrev pub and_then : Result (Unit {0}) Refusal → Result (Unit {0}) Refusal → Result (Unit {0}) Refusal
-and_then (Ok _) next = next
-and_then (Err e) next = Err e
 
 -- what two runs are refused for, first that applies; a and b are the numbers of places for the answers
 abbrev pub crosscheck_checked : (M N : Meaning PointFit) → ℕ → List Call → (a b : ℕ) → Result (Unit {0}) Refusal

@@ -36,6 +36,11 @@ fitness_of (fit m) = Ok tt
 abbrev pub checked : Bool → Refusal → Result (Unit {0}) Refusal → Result (Unit {0}) Refusal
 checked b e next = cond b next (Err e)
 
+-- what follows, unless a refusal comes before it
+abbrev pub and_then : {A : Type 0} → Result (Unit {0}) Refusal → Result A Refusal → Result A Refusal
+and_then (Ok _) next = next
+and_then (Err e) next = Err e
+
 -- what a call answers that grants x: x, or the refusal that applies
 abbrev pub answered : {A : Type 0} → Result (Unit {0}) Refusal → A → Result A Refusal
 answered (Ok _) x = Ok x

@@ -1,0 +1,12 @@
+pub mod Cases
+pub mod WordsKept
+pub mod RepeatKept
+pub mod WordJoinKept
+pub mod WordGlueKept
+pub mod ShortenKept
+pub mod PointsKept
+pub mod ConstructionAKept
+pub mod ScaleKept
+pub mod PointJoinKept
+pub mod PointGlueKept
+pub mod BlocksKept

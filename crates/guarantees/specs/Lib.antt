@@ -1,0 +1,4 @@
+pub mod Answers
+pub mod WordLayers
+pub mod PointLayers
+pub mod Blocks
