@@ -78,10 +78,13 @@ impl<F: PointFinder> Block<F> {
     /// stand.
     pub fn sense(&mut self, readings: &[i16]) -> Result<u32, Refusal>
         ensures a_closed_block_refuses { IsClosed self.old → result ≡ Err Closed }
-        ensures answers_how_many_stand { IfOpen self.old (λ q S. result ≡ sense_answer (meaning_of self.old) q S readings.now) }
-        ensures full_exactly_where_as_many_stand { IfOpen self.old (λ q S. length readings.now ≡ width_of (meaning_of self.old) →
+        ensures answers_how_many_stand { IfOpen self.old (λ q S.
+            result ≡ sense_answer (meaning_of self.old) q S readings.now) }
+        ensures full_exactly_where_as_many_stand { IfOpen self.old (λ q S.
+            length readings.now ≡ width_of (meaning_of self.old) →
             (result ≡ Err Full) ↔ (count_of S ≡ depth (meaning_of self.old) q)) }
-        ensures stands_when_granted { IfOpen self.old (λ q S. Stands q (after_sense (meaning_of self.old) q S readings.now) self.new) }
+        ensures stands_after_the_sense { IfOpen self.old (λ q S.
+            Stands q (after_sense (meaning_of self.old) q S readings.now) self.new) }
         ensures keeps_the_finder { finder_of self.new ≡ finder_of self.old }
         ensures a_refusal_changes_nothing { OnErr result (self.new ≡ self.old) }
     {
@@ -111,11 +114,15 @@ impl<F: PointFinder> Block<F> {
     /// number for each cell; 12 where no sense stands.
     pub fn decide(&self, place: &mut [i32]) -> Result<u64, Refusal>
         ensures a_closed_block_refuses { IsClosed self.now → result ≡ Err Closed }
-        ensures answers_the_total { IfOpen self.now (λ q S. result ≡ decide_answer (meaning_of self.now) q S (length place.old)) }
-        ensures empty_exactly_where_none_stands { IfOpen self.now (λ q S. length place.old ≡ width_of (meaning_of self.now) →
+        ensures answers_the_total { IfOpen self.now (λ q S.
+            result ≡ decide_answer (meaning_of self.now) q S (length place.old)) }
+        ensures empty_exactly_where_none_stands { IfOpen self.now (λ q S.
+            length place.old ≡ width_of (meaning_of self.now) →
             (result ≡ Err Empty) ↔ (count_of S ≡ 0)) }
-        ensures writes_the_point { IfOpen self.now (λ q S. place.new ≡ decide_place (meaning_of self.now) q S place.old) }
-        ensures has_the_least_total { IfOpen self.now (λ q S. DecideOutcome (meaning_of self.now) q S place.old place.new result) }
+        ensures writes_the_point { IfOpen self.now (λ q S.
+            place.new ≡ decide_place (meaning_of self.now) q S place.old) }
+        ensures has_the_least_total { IfOpen self.now (λ q S.
+            DecideOutcome (meaning_of self.now) q S place.old place.new result) }
         ensures a_refusal_leaves_the_place { OnErr result (place.new ≡ place.old) }
     {
         let Some(opened) = &self.opened else {
@@ -164,7 +171,8 @@ impl<F: PointFinder> Block<F> {
     pub fn make(&mut self, call: Call<'_>) -> Answer
         ensures a_closed_block_refuses { IsClosed self.old → result ≡ closed_answer call.entry }
         ensures answers_the_call { IfOpen self.old (λ q S. result ≡ answer_to (meaning_of self.old) q S call.entry) }
-        ensures stands_after_the_call { IfOpen self.old (λ q S. Stands q (after_call (meaning_of self.old) q S call.entry) self.new) }
+        ensures stands_after_the_call { IfOpen self.old (λ q S.
+            Stands q (after_call (meaning_of self.old) q S call.entry) self.new) }
         ensures keeps_the_finder { finder_of self.new ≡ finder_of self.old }
         ensures a_refusal_changes_nothing { IsRefused result → self.new ≡ self.old }
     {
@@ -186,10 +194,14 @@ impl<F: PointFinder> Block<F> {
         ensures first_refusal { result ≡ run_checked (meaning_of self.old) step calls.now (length answers.old) }
         ensures a_refusal_changes_nothing { OnErr result ((self.new ≡ self.old) × (answers.new ≡ answers.old)) }
         ensures keeps_the_finder { finder_of self.new ≡ finder_of self.old }
-        ensures answers_follow_from_the_calls_alone { OnOk result (answers.new ≡ answers_to (meaning_of self.old) step calls.now) }
-        ensures the_calls_say_what_stands { OnOk result (Stands step (standing (meaning_of self.old) step calls.now) self.new) }
-        ensures each_sense_is_granted_unless_full { OnOk result (EachSenseIsGrantedUnlessFull (meaning_of self.old) step calls.now answers.new) }
-        ensures each_decide_has_the_least_total { OnOk result (EachDecideHasTheLeastTotal (meaning_of self.old) step calls.now answers.new) }
+        ensures answers_follow_from_the_calls_alone { OnOk result (
+            answers.new ≡ answers_to (meaning_of self.old) step calls.now) }
+        ensures the_calls_say_what_stands { OnOk result (
+            Stands step (standing (meaning_of self.old) step calls.now) self.new) }
+        ensures each_sense_is_granted_unless_full { OnOk result (
+            EachSenseIsGrantedUnlessFull (meaning_of self.old) step calls.now answers.new) }
+        ensures each_decide_has_the_least_total { OnOk result (
+            EachDecideHasTheLeastTotal (meaning_of self.old) step calls.now answers.new) }
     {
         if answers.len() != calls.len() {
             return Err(Refusal::Length);

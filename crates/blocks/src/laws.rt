@@ -39,8 +39,10 @@ pub fn senses_of_equal_sums_stand_alike<F: PointFinder>(block: &Block<F>)
 /// The total of a point is its squared distance from each sense, added over the senses, in whatever order they came.
 pub fn the_total_is_added_over_the_senses()
     ensures nothing_for_no_sense { (q : ℕ) (x : List ℤ) → total q [] x ≡ 0 }
-    ensures one_sense_more { (q : ℕ) (rs x : List ℤ) (ss : List (List ℤ)) → total q (rs ∷ ss) x ≡ distance q rs x + total q ss x }
-    ensures order_does_not_count { (q : ℕ) (ss ts : List (List ℤ)) (x : List ℤ) → IsPermutation ss ts → total q ts x ≡ total q ss x }
+    ensures one_sense_more { (q : ℕ) (rs x : List ℤ) (ss : List (List ℤ)) →
+        total q (rs ∷ ss) x ≡ distance q rs x + total q ss x }
+    ensures order_does_not_count { (q : ℕ) (ss ts : List (List ℤ)) (x : List ℤ) →
+        IsPermutation ss ts → total q ts x ≡ total q ss x }
 {}
 
 /// The sum of a cell is that of its readings.
@@ -54,7 +56,8 @@ pub fn the_sums_are_of_the_readings_of_each_cell()
 pub fn the_nearer_point_to_the_sums_has_the_smaller_total()
     ensures balance { (n q : ℕ) (ss : List (List ℤ)) (x : List ℤ) → AreSenses n ss → length x ≡ n → let m = length ss in
         m * total q ss x + squares (sums n ss) ≡ m * energy ss + distance (m * q) (sums n ss) x }
-    ensures nearer_is_less { (n q : ℕ) (ss : List (List ℤ)) (x y : List ℤ) → AreSenses n ss → 1 ≤ length ss → length x ≡ n → length y ≡ n →
+    ensures nearer_is_less { (n q : ℕ) (ss : List (List ℤ)) (x y : List ℤ) → AreSenses n ss → 1 ≤ length ss →
+        length x ≡ n → length y ≡ n →
         distance (length ss * q) (sums n ss) x ≤ distance (length ss * q) (sums n ss) y → total q ss x ≤ total q ss y }
 {}
 
@@ -74,7 +77,8 @@ pub fn the_calls_say_which_senses_stand<F: PointFinder>(finder: &F)
         standing M q (cs ++ c ∷ []) ≡ after_call M q (standing M q cs) c }
     ensures a_clear_ends_what_was_before { (q : ℕ) (cs ds : List Call) → let M = F.meaning finder.now in
         standing M q (cs ++ Call.Clear ∷ ds) ≡ standing M q ds }
-    ensures the_first_of_fitting_width_stand { (q : ℕ) (cs : List Call) → HasNoClear cs → let M = F.meaning finder.now in
+    ensures the_first_of_fitting_width_stand { (q : ℕ) (cs : List Call) → HasNoClear cs →
+        let M = F.meaning finder.now in
         (standing M q cs).senses ≡ reverse (take (depth M q) (senses_of_width (width_of M) cs)) }
     ensures no_more_than_the_block_holds { (q : ℕ) (cs : List Call) → let M = F.meaning finder.now in
         count_of (standing M q cs) ≤ depth M q }

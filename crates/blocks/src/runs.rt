@@ -29,13 +29,20 @@ pub fn crosscheck<F: PointFinder, G: PointFinder>(
     ensures keeps_the_finders { (finder_of one.new ≡ finder_of one.old) × (finder_of other.new ≡ finder_of other.old) }
     ensures answers_of_the_one { OnOk result (answers.new ≡ answers_to (meaning_of one.old) step calls.now) }
     ensures answers_of_the_other { OnOk result (others.new ≡ answers_to (meaning_of other.old) step calls.now) }
-    ensures the_calls_say_what_stands_in_the_one { OnOk result (Stands step (standing (meaning_of one.old) step calls.now) one.new) }
-    ensures the_calls_say_what_stands_in_the_other { OnOk result (Stands step (standing (meaning_of other.old) step calls.now) other.new) }
-    ensures the_one_grants_each_sense_unless_full { OnOk result (EachSenseIsGrantedUnlessFull (meaning_of one.old) step calls.now answers.new) }
-    ensures the_other_grants_each_sense_unless_full { OnOk result (EachSenseIsGrantedUnlessFull (meaning_of other.old) step calls.now others.new) }
-    ensures the_one_decides_the_least_total { OnOk result (EachDecideHasTheLeastTotal (meaning_of one.old) step calls.now answers.new) }
-    ensures the_other_decides_the_least_total { OnOk result (EachDecideHasTheLeastTotal (meaning_of other.old) step calls.now others.new) }
-    ensures finders_of_one_set_are_answered_alike { OnOk result (OneSet (meaning_of one.old) (meaning_of other.old) → AnsweredAlike answers.new others.new) }
+    ensures the_calls_say_what_stands_in_the_one { OnOk result (
+        Stands step (standing (meaning_of one.old) step calls.now) one.new) }
+    ensures the_calls_say_what_stands_in_the_other { OnOk result (
+        Stands step (standing (meaning_of other.old) step calls.now) other.new) }
+    ensures the_one_grants_each_sense_unless_full { OnOk result (
+        EachSenseIsGrantedUnlessFull (meaning_of one.old) step calls.now answers.new) }
+    ensures the_other_grants_each_sense_unless_full { OnOk result (
+        EachSenseIsGrantedUnlessFull (meaning_of other.old) step calls.now others.new) }
+    ensures the_one_decides_the_least_total { OnOk result (
+        EachDecideHasTheLeastTotal (meaning_of one.old) step calls.now answers.new) }
+    ensures the_other_decides_the_least_total { OnOk result (
+        EachDecideHasTheLeastTotal (meaning_of other.old) step calls.now others.new) }
+    ensures finders_of_one_set_are_answered_alike { OnOk result (
+        OneSet (meaning_of one.old) (meaning_of other.old) → AnsweredAlike answers.new others.new) }
     ensures one_point_where_one_has_the_total { OnOk result (OneSet (meaning_of one.old) (meaning_of other.old) →
         OnePointWhereOneHasTheTotal (meaning_of one.old) step calls.now answers.new others.new) }
 {

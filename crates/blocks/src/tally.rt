@@ -47,7 +47,7 @@ impl Tally {
         requires few_cells { width ≤ 32 }
         requires some_sense { 1 ≤ self.now.count }
         requires fits { self.now.count * self.now.energy + distance < 2 ^ 64 }
-        requires no_less_than_the_squares { squares (take width self.now.sums) ≤ self.now.count * self.now.energy + distance }
+        requires covers_the_squares { squares (take width self.now.sums) ≤ self.now.count * self.now.energy + distance }
         ensures { let all = self.now.count * self.now.energy + distance in
             result ≡ (all - squares (take width self.now.sums)) / self.now.count }
     {

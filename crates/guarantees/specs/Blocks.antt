@@ -13,8 +13,8 @@ use Rattle.blocks.specs.CallLists.{HasNoClear, senses_of_width, HasSmallReadings
 use Rattle.blocks.specs.Runs.{EachSenseIsGrantedUnlessFull, EachDecideHasTheLeastTotal, AnsweredAlike}
 use Rattle.blocks.specs.Runs.{OnePointWhereOneHasTheTotal}
 
--- What an opening at the step q is refused for, first that applies: an unfit finder; a step below 1; a step, or readings,
--- that added over as many senses as the block holds are beyond the finder's limits.
+-- What an opening at the step q is refused for, first that applies: an unfit finder; a step below 1; a step or readings
+-- that, added over as many senses as the block holds, are beyond the finder's limits.
 abbrev pub opening_told : Meaning PointFit → ℕ → Result (Unit {0}) Refusal
 opening_told M q =
     let most = depth M q in

@@ -1,5 +1,6 @@
 -- What is promised of each layer of points, over any meaning below, fit or not.
-use Rattle.std.specs.Prelude.{◌≡◌, ℕ, ◌+◌, ◌-◌, ◌*◌, ◌/◌, ◌^◌, ◌<◌, ◌↔◌, min, List, ◌++◌, map, length, take, drop, ℤ, Ok, Result, nat_le}
+use Rattle.std.specs.Prelude.{◌≡◌, ℕ, ◌+◌, ◌-◌, ◌*◌, ◌/◌, ◌^◌, ◌<◌, ◌↔◌, min, List, ◌++◌, map, length, take, drop}
+use Rattle.std.specs.Prelude.{ℤ, Ok, Result, nat_le}
 use Rattle.integers.specs.Sums.{plus}
 use Rattle.finders.specs.declared.points.PointShape.{PointShape}
 use Rattle.finders.specs.declared.refusals.Refusal.{Refusal}
@@ -7,9 +8,11 @@ use Rattle.finders.specs.declared.refusals.Refusal.TheVariants.{Width, Length, G
 use Rattle.finders.specs.Choice.{first_best, no_larger, IsFirst}
 use Rattle.finders.specs.Meanings.{Meaning, fitness_of, checked, placed, and_then}
 use Rattle.finders.specs.Points.{distance}
-use Rattle.finders.specs.PointFinders.{PointFit, Lawful, Member, shape_of, width_of, reading_limit_of, step_limit_of, find_checked, find_answer, find_place}
+use Rattle.finders.specs.PointFinders.{PointFit, Lawful, Member, shape_of, width_of, reading_limit_of}
+use Rattle.finders.specs.PointFinders.{step_limit_of, find_checked, find_answer, find_place}
 use Rattle.finders.specs.Sizes.{in_range}
-use Rattle.finders.specs.WordFinders.{WordFit, Member as WordMember, width_of as word_width_of, gain_limit_of, find_answer as word_answer}
+use Rattle.finders.specs.WordFinders.{WordFit, Member as WordMember, width_of as word_width_of, gain_limit_of}
+use Rattle.finders.specs.WordFinders.{find_answer as word_answer}
 use Rattle.lattice_layers.specs.ConstructionA.{gain, parities, with_parities, construction_a}
 use Rattle.lattice_layers.specs.Glue.{taken_off, sum_numbers, glued}
 use Rattle.lattice_layers.specs.Join.{joined}

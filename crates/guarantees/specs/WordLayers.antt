@@ -1,12 +1,14 @@
 -- What is promised of each layer of words, over any meaning below, fit or not.
-use Rattle.std.specs.Prelude.{◌≡◌, ℕ, ◌+◌, ◌-◌, ◌*◌, ◌/◌, ◌^◌, ◌<◌, ◌↔◌, min, List, map, length, take, drop, ℤ, pos, ◌+ℤ◌, Ok, Result, nat_le, bit_xor}
+use Rattle.std.specs.Prelude.{◌≡◌, ℕ, ◌+◌, ◌-◌, ◌*◌, ◌/◌, ◌^◌, ◌<◌, ◌↔◌, min, List, map, length, take, drop, ℤ, pos}
+use Rattle.std.specs.Prelude.{◌+ℤ◌, Ok, Result, nat_le, bit_xor}
 use Rattle.finders.specs.declared.words.WordShape.{WordShape}
 use Rattle.finders.specs.declared.refusals.Refusal.{Refusal}
 use Rattle.finders.specs.declared.refusals.Refusal.TheVariants.{Width, GlueCount, Entry, Exhausted, Factor}
 use Rattle.finders.specs.Choice.{first_best, no_less, IsFirst}
 use Rattle.finders.specs.Meanings.{Meaning, fitness_of, checked, and_then}
 use Rattle.finders.specs.Sizes.{in_range}
-use Rattle.finders.specs.WordFinders.{WordFit, Lawful, Member, shape_of, width_of, gain_limit_of, find_checked, find_answer}
+use Rattle.finders.specs.WordFinders.{WordFit, Lawful, Member, shape_of, width_of, gain_limit_of, find_checked}
+use Rattle.finders.specs.WordFinders.{find_answer}
 use Rattle.finders.specs.Words.{all_fit}
 use Rattle.code_layers.specs.Glue.{glue_sum, negated, sum_numbers, glued}
 use Rattle.code_layers.specs.Join.{joined}

@@ -13,9 +13,9 @@ returns-in_err-distance-clause-writes_the_point g c = λ q S s. absurd (found_no
 pub total-requires-clause-fits : goal.total-requires-clause-fits
 total-requires-clause-fits g c = (enough_kept _ _ c.in-Some.opened c.args.place.now c.in_ok-distance.distance (g.met.F.PointFinder.lawful c.args.self.now.finder) c.in-Some.is c.args.self.now.closed_or_represents c.if-place-width.false c.if-tally-lt1.false c.in_ok-distance.ensures.answers_the_distance).0
 
-pub total-requires-clause-no_less_than_the_squares :
-    goal.total-requires-clause-no_less_than_the_squares
-total-requires-clause-no_less_than_the_squares g c = (enough_kept _ _ c.in-Some.opened c.args.place.now c.in_ok-distance.distance (g.met.F.PointFinder.lawful c.args.self.now.finder) c.in-Some.is c.args.self.now.closed_or_represents c.if-place-width.false c.if-tally-lt1.false c.in_ok-distance.ensures.answers_the_distance).1
+pub total-requires-clause-covers_the_squares :
+    goal.total-requires-clause-covers_the_squares
+total-requires-clause-covers_the_squares g c = (enough_kept _ _ c.in-Some.opened c.args.place.now c.in_ok-distance.distance (g.met.F.PointFinder.lawful c.args.self.now.finder) c.in-Some.is c.args.self.now.closed_or_represents c.if-place-width.false c.if-tally-lt1.false c.in_ok-distance.ensures.answers_the_distance).1
 
 pub returns-clause-answers_the_total : goal.returns-clause-answers_the_total
 returns-clause-answers_the_total g c = λ q S s. total_decided _ q S c.in-Some.opened c.args.place.now (g.met.F.PointFinder.lawful c.args.self.now.finder) c.if-place-width.false c.if-tally-lt1.false (represents_at _ q S _ _ c.in-Some.opened s.is_open c.in-Some.is s.represents) c.in_ok-distance.distance c.in_ok-distance.ensures.answers_the_distance c.total.result c.total.ensures
