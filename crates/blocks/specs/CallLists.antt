@@ -5,7 +5,7 @@ use Rattle.blocks.specs.Senses.{largest_reading}
 use Rattle.blocks.specs.declared.calls.Call.{Call}
 use Rattle.blocks.specs.declared.calls.Call.TheVariants as call
 
--- the kinds are the same, and the readings, and the lengths of the places
+-- two calls of one kind, with one list of readings or one length of the place
 abbrev pub SameCall : Call → Call → Type 0
 SameCall (call.Sense rs) (call.Sense ss) = rs.now ≡ ss.now
 SameCall call.Clear call.Clear = Unit {0}

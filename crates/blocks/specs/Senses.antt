@@ -11,12 +11,12 @@ largest_reading = 2 ^ 15
 
 -- ---- the total of a point
 
--- the squares of (reading - q * coordinate), added over the cells and the senses
+-- its squared distance from each sense at the step q, added
 abbrev pub total : ℕ → List (List ℤ) → List ℤ → ℕ
 total q [] x = 0
 total q (rs ∷ ss) x = distance q rs x + total q ss x
 
--- x is a point of the set, t is its total, and no point of the set has a smaller one
+-- x is a member, t is its total, and every member has at least that
 pub record IsLeastTotal (M : Meaning PointFit) (q : ℕ) (ss : List (List ℤ)) (x : List ℤ) (t : ℕ) : Type 0 where
   pub is_a_member : Member M x
   pub is_its_total : total q ss x ≡ t
