@@ -1,32 +1,31 @@
 -- A decision: what the finder is asked and answers, and why no point of its set has a smaller total.
-use Rattle.std.proofs.Common.{◌≡◌, ℕ, ◌+◌, ◌-◌, ◌*◌, ◌/◌, ◌^◌, ◌<◌, ◌≤◌, eqb, leb, List, length, take, ℤ, Some, Ok, Err, Option, Result, sym, refl, ap, ◌∙◌, arith, mul-le-mul, mul-le-mul_right}
+use Rattle.std.proofs.Common.{◌≡◌, ℕ, ◌+◌, ◌-◌, ◌*◌, ◌/◌, ◌^◌, ◌<◌, ◌≤◌, List, length, take, ℤ, Ok, Err}
+use Rattle.std.proofs.Common.{Result, sym, refl, ap, ◌∙◌, arith, rules, mul-le-mul, mul-le-mul_right}
 use Rattle.std.proofs.Math.Bridge.{le_prop}
 use Rattle.std.proofs.Math.Nat.{mul-div_cancel_left, le_of_mul-le-mul_left}
-use Rattle.std.proofs.lemmas.Bool.{le-leb, leb-true, eq-eqb}
+use Rattle.finders.specs.declared.points.PointFinder.{Ghosts}
 use Rattle.finders.specs.declared.refusals.Refusal.{Refusal}
-use Rattle.finders.specs.declared.refusals.Refusal.TheVariants.{Length, Empty}
-use Rattle.finders.specs.Meanings.{Meaning, fit, unfit, checked, answered, placed}
+use Rattle.finders.specs.Meanings.{Meaning, fit, unfit}
 use Rattle.finders.specs.Points.{distance}
 use Rattle.finders.specs.PointFinders.{PointFit, Lawful, Asked, Member, width_of, find_answer, find_place}
-use Rattle.finders.proofs.Fitness.{not_err, passed}
+use Rattle.finders.proofs.Fitness.{not_err}
 use Rattle.finders.proofs.GrantedPoints.{found_at}
 use Rattle.finders.proofs.PickSizes.{pick_is_near}
 use Rattle.finders.proofs.Within.{within_wider}
+use Rattle.blocks.specs.declared.block.Block.{Block}
 use Rattle.blocks.specs.declared.opened.Opened.{Opened}
-use Rattle.blocks.specs.Senses.{total, IsLeastTotal, sums, squares, Standing, count_of}
+use Rattle.blocks.specs.Senses.{total, IsLeastTotal, sums, squares, energy, Standing, count_of}
 use Rattle.blocks.specs.Tally.{AreSenses}
-use Rattle.blocks.specs.Calls.{depth, open_checked, decide_checked, decided_point, decided_total, decide_answer, decide_place, DecideOutcome}
-use Rattle.blocks.specs.Opened.{Represents, IsClosedOrRepresents}
+use Rattle.blocks.specs.Calls.{depth, open_checked, decided_point, decided_total, decide_answer}
+use Rattle.blocks.specs.Opened.{Represents}
+use Rattle.blocks.specs.Block.{meaning_of, Stands}
 use Rattle.blocks.proofs.Balance.{balance, length_sums}
-use Rattle.blocks.proofs.Keeping.{room_when_open, few_stand, small_energy, of_any}
+use Rattle.blocks.proofs.Keeping.{room_when_open, few_stand, small_energy, Holds, of_any, represents}
 use Rattle.blocks.proofs.SenseSizes.{within_sums}
 
-ok_same : (a b : ℕ) → ◌≡◌ {A = Result ℕ Refusal} (Ok a) (Ok b) → a ≡ b
-ok_same a b e = cc
-
-as_wide_as : (M : Meaning PointFit) (x : List ℤ) → Lawful M → Member M x → length x ≡ width_of M
-as_wide_as (unfit e) x l m = absurd m
-as_wide_as (fit m) x l i = l.members_are_as_wide x i
+members_are_as_wide : (M : Meaning PointFit) (x : List ℤ) → Lawful M → Member M x → length x ≡ width_of M
+members_are_as_wide (unfit e) x l i = absurd i
+members_are_as_wide (fit m) x l i = l.members_are_as_wide x i
 
 -- what senses a decision may be made of
 pub record MayDecide (M : Meaning PointFit) (q : ℕ) (ss : List (List ℤ)) : Type 0 where
@@ -39,108 +38,148 @@ pub record MayDecide (M : Meaning PointFit) (q : ℕ) (ss : List (List ℤ)) : T
 asked : (m : PointFit) (q : ℕ) (ss : List (List ℤ)) → MayDecide (fit m) q ss → Asked m (sums m.width ss) (length ss * q)
 asked m q ss may =
     let room = room_when_open m q may.opens in
-    record {
-      as_wide = length_sums m.width ss may.senses;
-      readings_within = within_wider (length ss * 2 ^ 15) m.reading_limit (sums m.width ss) (omega (arith, room.2, mul-le-mul_right (2 ^ 15) may.few)) (within_sums m.width ss may.senses);
-      step_from_one = mul-le-mul may.some room.0;
-      step_within = omega (arith, room.1, mul-le-mul_right q may.few);
-    }
+    let few_readings = mul-le-mul_right (2 ^ 15) may.few in
+    let few_steps = mul-le-mul_right q may.few in
+    let wide = length_sums m.width ss may.senses in
+    let small = within_sums m.width ss may.senses in
+    let wider = within_wider (length ss * 2 ^ 15) m.reading_limit (sums m.width ss) in
+    search (rules, wider, mul-le-mul may.some room.step_from_one)
 
--- the squared distance of the decided point from the sums
-abbrev sum_distance : Meaning PointFit → ℕ → List (List ℤ) → ℕ
-sum_distance M q ss = distance (length ss * q) (sums (width_of M) ss) (decided_point M q ss)
+-- the squared distance of a point from the sums, and of the decided one
+abbrev sum_distance : Meaning PointFit → ℕ → List (List ℤ) → List ℤ → ℕ
+sum_distance M q ss x = distance (length ss * q) (sums (width_of M) ss) x
+
+abbrev decided_distance : Meaning PointFit → ℕ → List (List ℤ) → ℕ
+decided_distance M q ss = sum_distance M q ss (decided_point M q ss)
 
 -- the decided point is a member, near to the sums, and none is nearer to them
 record Nearest (M : Meaning PointFit) (q : ℕ) (ss : List (List ℤ)) : Type 0 where
   is_a_member : Member M (decided_point M q ss)
-  is_near : sum_distance M q ss ≤ 2 ^ 45
-  no_member_is_nearer : (y : List ℤ) → Member M y → sum_distance M q ss ≤ distance (length ss * q) (sums (width_of M) ss) y
+  is_near : decided_distance M q ss ≤ 2 ^ 45
+  no_member_is_nearer : (y : List ℤ) → Member M y → decided_distance M q ss ≤ sum_distance M q ss y
 
 nearest : (M : Meaning PointFit) (q : ℕ) (ss : List (List ℤ)) → Lawful M → MayDecide M q ss → Nearest M q ss
 nearest (unfit e) q ss l may = absurd (not_err (sym may.opens))
 nearest (fit m) q ss l may =
     let a = asked m q ss may in
-    let rs = sums m.width ss in
-    record {
-      is_a_member = l.pick_is_a_member rs (length ss * q) a;
-      is_near = pick_is_near m rs (length ss * q) l a;
-      no_member_is_nearer = l.no_member_is_nearer rs (length ss * q) a;
-    }
+    search (rules, pick_is_near m (sums m.width ss) (length ss * q) l a)
+
+-- the balance at a member
+balance_at : {M : Meaning PointFit} {q : ℕ} {ss : List (List ℤ)} (x : List ℤ) →
+    Lawful M → MayDecide M q ss → Member M x →
+    length ss * total q ss x + squares (sums (width_of M) ss) ≡ length ss * energy ss + sum_distance M q ss x
+balance_at {M = M} {q = q} {ss = ss} x l may i = balance (width_of M) q ss x may.senses (members_are_as_wide M x l i)
 
 -- so no member has a smaller total
-pub least : (M : Meaning PointFit) (q : ℕ) (ss : List (List ℤ)) → Lawful M → MayDecide M q ss → IsLeastTotal M q ss (decided_point M q ss) (decided_total M q ss)
+pub least : (M : Meaning PointFit) (q : ℕ) (ss : List (List ℤ)) → Lawful M → MayDecide M q ss →
+    IsLeastTotal M q ss (decided_point M q ss) (decided_total M q ss)
 least M q ss l may =
     let near = nearest M q ss l may in
     record {
       is_a_member = near.is_a_member;
       is_its_total = refl;
       no_member_has_less = λ y i.
-          let here = balance (width_of M) q ss (decided_point M q ss) may.senses (as_wide_as M (decided_point M q ss) l near.is_a_member) in
-          let there = balance (width_of M) q ss y may.senses (as_wide_as M y l i) in
-          let times : length ss * decided_total M q ss ≤ length ss * total q ss y = omega (arith, near.no_member_is_nearer y i) in
+          let here = balance_at (decided_point M q ss) l may near.is_a_member in
+          let there = balance_at y l may i in
+          let times : length ss * decided_total M q ss ≤ length ss * total q ss y =
+          omega (arith, here, there, near.no_member_is_nearer y i) in
           le_of_mul-le-mul_left times may.some;
     }
 
--- ---- what the code asks, and works out of the answer
+-- ---- what the code asks of the finder, and works out of the answer
 
-found : (M : Meaning PointFit) (q : ℕ) (S : Standing) (o : Opened) (place : List ℤ) → Represents M q S o → MayDecide M q S.senses → length place ≡ o.width →
-    (find_answer M (take o.width o.tally.sums) (o.tally.count * o.step) place ≡ Ok (sum_distance M q S.senses)) × (find_place M (take o.width o.tally.sums) (o.tally.count * o.step) place ≡ decided_point M q S.senses)
+abbrev pub finder_answer : Meaning PointFit → Opened → List ℤ → Result ℕ Refusal
+finder_answer M o place = find_answer M (take o.width o.tally.sums) (o.tally.count * o.step) place
+
+abbrev pub finder_place : Meaning PointFit → Opened → List ℤ → List ℤ
+finder_place M o place = find_place M (take o.width o.tally.sums) (o.tally.count * o.step) place
+
+found : (M : Meaning PointFit) (q : ℕ) (S : Standing) (o : Opened) (place : List ℤ) →
+    Represents M q S o → MayDecide M q S.senses → length place ≡ o.width →
+    (finder_answer M o place ≡ Ok (decided_distance M q S.senses)) × (finder_place M o place ≡ decided_point M q S.senses)
 found (unfit e) q S o place h may w = absurd (not_err (sym may.opens))
 found (fit m) q S o place h may w =
-    rw (h.as_wide, h.tallied.sums, h.tallied.count, h.at_the_step) (found_at m (sums m.width S.senses) place (count_of S * q) (asked m q S.senses may) (w ∙ h.as_wide))
+    rw (h.as_wide, h.tallied.sums, h.tallied.count, h.at_the_step)
+    (found_at m (sums m.width S.senses) place (count_of S * q) (asked m q S.senses may) (w ∙ h.as_wide))
 
--- of a block that holds o, for a place that fits, where a sense stands
-module _ (M : Meaning PointFit) (q : ℕ) (S : Standing) (o : Opened) (place : List ℤ) (l : Lawful M) (w : length place ≡ o.width) (some : 1 ≤ o.tally.count) (h : Represents M q S o) where
-  pub may_decide : MayDecide M q S.senses
-  may_decide = record { opens = h.may_open; senses = h.tallied.senses; some = omega (arith, h.tallied.count); few = h.no_more_than_it_holds }
+-- the block holds o, where a sense stands, and is asked to decide into a place that fits
+pub record Asks {F : Type 0} {finds : Ghosts F} (b : Block F finds) (o : Opened) (place : List ℤ) : Type 0 where
+  pub holds : Holds b o
+  pub fits : length place ≡ o.width
+  pub some : 1 ≤ o.tally.count
 
-  abbrev point : List ℤ
-  point = decided_point M q S.senses
+module _ {F : Type 0} {finds : Ghosts F} {b : Block F finds} {o : Opened} {place : List ℤ} (asks : Asks b o place) where
+  may_decide : {q : ℕ} {S : Standing} → Represents (meaning_of b) q S o → MayDecide (meaning_of b) q S.senses
+  may_decide h = search rules
 
-  -- a refusal by the finder is none that a block comes to
-  pub found_not_refused : (e : Refusal) → Err e ≡ find_answer M (take o.width o.tally.sums) (o.tally.count * o.step) place → ⊥
-  found_not_refused e f = not_err (sym (f ∙ (found M q S o place h may_decide w).0))
+  found_here : {q : ℕ} {S : Standing} → Represents (meaning_of b) q S o →
+      (finder_answer (meaning_of b) o place ≡ Ok (decided_distance (meaning_of b) q S.senses)) ×
+      (finder_place (meaning_of b) o place ≡ decided_point (meaning_of b) q S.senses)
+  found_here {q = q} {S = S} h = found (meaning_of b) q S o place h (may_decide h) asks.fits
 
-  pub place_decided : (after : List ℤ) → after ≡ find_place M (take o.width o.tally.sums) (o.tally.count * o.step) place → after ≡ decide_place M q S place
-  place_decided after f =
-      rw (eq-eqb (length place) (width_of M) (w ∙ h.as_wide), le-leb 1 (count_of S) may_decide.some) (f ∙ (found M q S o place h may_decide w).1)
+  -- the finder refuses nothing that a block asks of it
+  pub never_refused : (e : Refusal) → Err e ≡ finder_answer (meaning_of b) o place → ⊥
+  never_refused e told = of_any asks.holds (λ x y. absurd x) (λ q S h. not_err (sym (told ∙ (found_here h).0)))
 
-  -- the finder answers the distance d
-  module _ (d : ℕ) (e : Ok d ≡ find_answer M (take o.width o.tally.sums) (o.tally.count * o.step) place) where
-    distance_is : d ≡ sum_distance M q S.senses
-    distance_is = ok_same d (sum_distance M q S.senses) (e ∙ (found M q S o place h may_decide w).0)
+-- and the finder has answered the distance d, and written the place
+pub record Finds {F : Type 0} {finds : Ghosts F} (b : Block F finds) (o : Opened) (before after : List ℤ) (d : ℕ)
+    : Type 0 where
+  pub asks : Asks b o before
+  pub answered : Ok d ≡ finder_answer (meaning_of b) o before
+  pub written : after ≡ finder_place (meaning_of b) o before
 
-    near : Nearest M q S.senses
-    near = nearest M q S.senses l may_decide
+module _ {F : Type 0} {finds : Ghosts F} {b : Block F finds} {o : Opened} {before after : List ℤ} {d : ℕ}
+    (got : Finds b o before after d) where
+  -- the count times the energy, and the distance; and the squares of the sums, which are taken from it
+  abbrev all : ℕ
+  all = o.tally.count * o.tally.energy + d
 
-    balanced : o.tally.count * total q S.senses point + squares (take o.width o.tally.sums) ≡ o.tally.count * o.tally.energy + d
-    balanced = rw (h.as_wide, h.tallied.count, h.tallied.sums, h.tallied.energy, distance_is) (balance (width_of M) q S.senses point h.tallied.senses (as_wide_as M point l near.is_a_member))
+  abbrev squared_sums : ℕ
+  squared_sums = squares (take o.width o.tally.sums)
 
-    pub enough : (o.tally.count * o.tally.energy + d < 2 ^ 64) × (squares (take o.width o.tally.sums) ≤ o.tally.count * o.tally.energy + d)
-    enough =
-        let few : o.tally.count ≤ 1024 = omega (arith, h.tallied.count, few_stand M q S o l h) in
-        (omega (arith, distance_is, near.is_near, mul-le-mul few (small_energy M q S o l h)), omega (arith, balanced))
+  module _ {q : ℕ} {S : Standing} (h : Represents (meaning_of b) q S o) where
+    distance_is : d ≡ decided_distance (meaning_of b) q S.senses
+    distance_is =
+        let e = got.answered ∙ (found_here got.asks h).0 in
+        cc
 
-    pub total_decided : (t : ℕ) → t ≡ (o.tally.count * o.tally.energy + d - squares (take o.width o.tally.sums)) / o.tally.count → Ok t ≡ decide_answer M q S (length place)
-    total_decided t f =
-        let times : o.tally.count * o.tally.energy + d - squares (take o.width o.tally.sums) ≡ o.tally.count * total q S.senses point = omega (arith, balanced) in
-        let is : t ≡ total q S.senses point = f ∙ ap (λ (n : ℕ). n / o.tally.count) times ∙ mul-div_cancel_left (total q S.senses point) some in
-        rw (eq-eqb (length place) (width_of M) (w ∙ h.as_wide), le-leb 1 (count_of S) may_decide.some) (ap Ok is)
+    may : MayDecide (meaning_of b) q S.senses
+    may = may_decide got.asks h
 
--- whatever senses stand
-pub enough_kept : (M : Meaning PointFit) (b : Option Opened) (o : Opened) (place : List ℤ) (d : ℕ) → Lawful M → b ≡ Some o → ∥ IsClosedOrRepresents M b ∥₁ → length place ≡ o.width → 1 ≤ o.tally.count → Ok d ≡ find_answer M (take o.width o.tally.sums) (o.tally.count * o.step) place → (o.tally.count * o.tally.energy + d < 2 ^ 64) × (squares (take o.width o.tally.sums) ≤ o.tally.count * o.tally.energy + d)
-enough_kept M b o place d l is kept w some e = (
-  of_any M b o l is kept le_prop (λ q S h. (enough M q S o place l w some h d e).0),
-  of_any M b o l is kept le_prop (λ q S h. (enough M q S o place l w some h d e).1),
-)
+    near : Nearest (meaning_of b) q S.senses
+    near = nearest (meaning_of b) q S.senses got.asks.holds.lawful may
 
--- what a decide comes to
-pub decide_outcome : (M : Meaning PointFit) (q : ℕ) (S : Standing) (o : Opened) (before after : List ℤ) (r : Result ℕ Refusal) → Lawful M → Represents M q S o → r ≡ decide_answer M q S (length before) → after ≡ decide_place M q S before → DecideOutcome M q S before after r
-decide_outcome M q S o before after r l h e f = rw (e, f) (go (decide_checked M S (length before)) (λ g. some_where (passed (eqb (length before) (width_of M)) Length _ g).1))
-  where
-    some_where : checked (leb 1 (count_of S)) Empty (Ok tt) ≡ Ok tt → 1 ≤ count_of S
-    some_where g = leb-true 1 (count_of S) (passed (leb 1 (count_of S)) Empty (Ok tt) g).0
+    balanced : o.tally.count * decided_total (meaning_of b) q S.senses + squared_sums ≡ all
+    balanced =
+        let point = decided_point (meaning_of b) q S.senses in
+        rw (h.as_wide, h.tallied.count, h.tallied.sums, h.tallied.energy, distance_is)
+        (balance_at point got.asks.holds.lawful may near.is_a_member)
 
-    go : (g : Result (Unit {0}) Refusal) → (g ≡ Ok tt → 1 ≤ count_of S) → DecideOutcome M q S before (placed g (decided_point M q S.senses) before) (answered g (decided_total M q S.senses))
-    go (Ok _) some = least M q S.senses l (record { opens = h.may_open; senses = h.tallied.senses; some = some refl; few = h.no_more_than_it_holds })
-    go (Err e) some = refl
+  -- the numbers of the total fit
+  pub fits : all < 2 ^ 64
+  fits = of_any got.asks.holds le_prop (λ q S h.
+      let few : o.tally.count ≤ 2 ^ 10 = omega (arith, h.tallied.count, few_stand got.asks.holds.lawful h) in
+      omega (arith, distance_is h, (near h).is_near, mul-le-mul few (small_energy got.asks.holds.lawful h)))
+
+  pub covers_the_squares : squared_sums ≤ all
+  covers_the_squares = of_any got.asks.holds le_prop (λ q S h. omega (arith, balanced h))
+
+  -- where S stands, the total t is that of the decided point, which is what is written
+  module _ {q : ℕ} {S : Standing} (stands : Stands q S b) {t : ℕ}
+      (is : t ≡ (all - squared_sums) / o.tally.count) where
+    kept : Represents (meaning_of b) q S o
+    kept = represents got.asks.holds stands
+
+    total_is : t ≡ decided_total (meaning_of b) q S.senses
+    total_is =
+        let t = decided_total (meaning_of b) q S.senses in
+        let times : all - squared_sums ≡ o.tally.count * t = omega (arith, balanced kept) in
+        is ∙ ap (λ (n : ℕ). n / o.tally.count) times ∙ mul-div_cancel_left t got.asks.some
+
+    pub total_decided : Ok t ≡ decide_answer (meaning_of b) q S (length before)
+    total_decided = let is = total_is in search rules
+
+    pub least_decided : IsLeastTotal (meaning_of b) q S.senses after t
+    least_decided =
+        rw (got.written ∙ (found_here got.asks kept).1, total_is)
+        (least (meaning_of b) q S.senses got.asks.holds.lawful (may kept))

@@ -10,4 +10,4 @@ pub mod RunSteps
 pub mod AlikeRuns
 pub mod CallLists
 pub mod SumLaws
-pub mod SameFinders
+pub mod OneSet

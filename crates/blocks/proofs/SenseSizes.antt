@@ -8,7 +8,10 @@ use Rattle.blocks.specs.Tally.{AreSenses}
 
 pub within_sums : (n : ℕ) (ss : List (List ℤ)) → AreSenses n ss → within (length ss * 2 ^ 15) (sums n ss) ≡ true
 within_sums n [] h = within_zeros (0 * 2 ^ 15) n
-within_sums n (rs ∷ ss) h = within_wider (length ss * 2 ^ 15 + 2 ^ 15) (length (rs ∷ ss) * 2 ^ 15) (sums n (rs ∷ ss)) (omega arith) (within_plus (length ss * 2 ^ 15) (2 ^ 15) (sums n ss) rs (within_sums n ss h.1) h.0.small)
+within_sums n (rs ∷ ss) h =
+    let limit = length ss * 2 ^ 15 in
+    let more = within_plus limit (2 ^ 15) (sums n ss) rs (within_sums n ss h.1) h.0.small in
+    within_wider (limit + 2 ^ 15) (length (rs ∷ ss) * 2 ^ 15) (sums n (rs ∷ ss)) (omega arith) more
 
 pub squares_within : (limit : ℕ) (zs : List ℤ) → within limit zs ≡ true → squares zs ≤ length zs * (limit * limit)
 squares_within limit [] h = omega arith

@@ -4,18 +4,18 @@ use Rattle.finders.specs.Meanings.{Meaning, fit, unfit}
 use Rattle.finders.specs.PointFinders.{PointFit, Lawful}
 use Rattle.blocks.specs.Senses.{none_standing}
 use Rattle.blocks.specs.Calls.{open_checked}
-use Rattle.blocks.proofs.AlikeRuns.{runs_alike, runs_at_one_point}
-use Rattle.blocks.proofs.CallLists.{after_clear, first_of_fitting_width, small_readings_are_senses}
-use Rattle.blocks.proofs.RunLaws.{after_more, few_standing, each_sense, each_decide}
+use Rattle.blocks.proofs.AlikeRuns.{run_of, runs_alike, runs_at_one_point}
+use Rattle.blocks.proofs.CallLists.{after_clear, first_of_fitting_width}
+use Rattle.blocks.proofs.RunLaws.{after_more, few_standing, each_sense}
 use Rattle.guarantees.specs.Blocks.{opening_told, BlockPromise, TwoBlocksPromise}
 
-opens : (M : Meaning PointFit) (q : ℕ) → open_checked M q ≡ opening_told M q
-opens (unfit e) q = refl
-opens (fit m) q = refl
+opens_as_told : (M : Meaning PointFit) (q : ℕ) → open_checked M q ≡ opening_told M q
+opens_as_told (unfit e) q = refl
+opens_as_told (fit m) q = refl
 
 pub block_kept : (M : Meaning PointFit) → Lawful M → BlockPromise M
 block_kept M l = record {
-  opens_unless_refused = opens M;
+  opens_unless_refused = opens_as_told M;
   holds_64_senses = λ q. refl;
   none_stands_at_an_opening = λ q. refl;
   each_call_changes_what_stands = λ q. after_more M q none_standing;
@@ -23,13 +23,13 @@ block_kept M l = record {
   the_first_of_fitting_width_stand = first_of_fitting_width M;
   no_more_stand_than_it_holds = few_standing M;
   each_sense_is_granted_unless_full = λ q cs. each_sense M q cs _ refl;
-  each_decide_has_the_least_total = λ q cs opens small. each_decide M q cs _ l opens (small_readings_are_senses M q cs small) refl;
+  each_decide_has_the_least_total = λ q cs opens small. (run_of M q cs l opens small).decides;
 }
 
 pub two_blocks_kept : (M N : Meaning PointFit) → Lawful M → Lawful N → TwoBlocksPromise M N
 two_blocks_kept M N l k = record {
   are_answered_alike = λ set q cs opens other small.
-      runs_alike M N q l k opens other cs _ _ refl refl (each_decide M q cs _ l opens (small_readings_are_senses M q cs small) refl) (each_decide N q cs _ k other (small_readings_are_senses N q cs small) refl) set;
+      runs_alike set (run_of M q cs l opens small) (run_of N q cs k other small);
   decide_one_point_where_one_has_the_total = λ set q cs opens other small.
-      runs_at_one_point M N q l k opens other cs _ _ refl refl (each_decide M q cs _ l opens (small_readings_are_senses M q cs small) refl) (each_decide N q cs _ k other (small_readings_are_senses N q cs small) refl) set;
+      runs_at_one_point set (run_of M q cs l opens small) (run_of N q cs k other small);
 }

@@ -1,8 +1,6 @@
-use Rattle.std.proofs.Common.{sym, refl}
 use Rattle.blocks.specs.Senses.{none_standing}
-use Rattle.blocks.proofs.CallLists.{same_answers, small_readings_are_senses}
-use Rattle.blocks.proofs.RunLaws.{each_decide}
-use Rattle.blocks.proofs.AlikeRuns.{runs_alike, runs_at_one_point}
+use Rattle.blocks.proofs.CallLists.{same_answers}
+use Rattle.blocks.proofs.AlikeRuns.{run_of, runs_alike, runs_at_one_point}
 use Rattle.blocks.proofs.laws.same_calls_are_answered_alike.Goals as goal
 
 pub returns : goal.returns
@@ -14,9 +12,9 @@ returns g c =
     record {
       by_one_finder = λ q cs ds. same_answers M q none_standing cs ds;
       by_finders_of_one_set = λ set q cs ds opens other small same.
-          let is = sym (same_answers N q none_standing cs ds same) in
-          runs_alike M N q l k opens other cs _ _ refl is (each_decide M q cs _ l opens (small_readings_are_senses M q cs small) refl) (each_decide N q cs _ k other (small_readings_are_senses N q cs small) is) set;
+          let alike = runs_alike set (run_of M q cs l opens small) (run_of N q cs k other small) in
+          rw (← same_answers N q none_standing cs ds same) alike;
       one_point_where_one_has_the_total = λ set q cs ds opens other small same.
-          let is = sym (same_answers N q none_standing cs ds same) in
-          runs_at_one_point M N q l k opens other cs _ _ refl is (each_decide M q cs _ l opens (small_readings_are_senses M q cs small) refl) (each_decide N q cs _ k other (small_readings_are_senses N q cs small) is) set;
+          let at_one = runs_at_one_point set (run_of M q cs l opens small) (run_of N q cs k other small) in
+          rw (← same_answers N q none_standing cs ds same) at_one;
     }

@@ -1,0 +1,3 @@
+pub mod SameMeanings
+pub mod WorkedPair
+pub mod LastDecide
