@@ -1,5 +1,5 @@
 -- Two runs of the same calls, at one step over finders of one set.
-use Rattle.std.proofs.Common.{◌≡◌, ℕ, zero, suc, List, [], ◌∷◌, take, ◌≤◌, Some, Ok, Err, Result, refl, ap, ap₂, subst, arith}
+use Rattle.std.proofs.Common.{◌≡◌, ℕ, zero, suc, List, [], ◌∷◌, take, ◌≤◌, Some, Ok, Err, Result, sym, refl, ap, ap₂, ◌∙◌, subst, arith}
 use Rattle.std.specs.List.{slice_get, AllByRecursion}
 use Rattle.std.proofs.Math.Decide.{ℕ_discrete}
 use Rattle.std.proofs.lemmas.Bool.{eq-eqb, ne_eqb, le-leb}
@@ -78,18 +78,21 @@ module _ (M N : Meaning PointFit) (q : ℕ) (set : OneSet M N) (wide : width_of 
   abbrev as_checked : Meaning PointFit → Standing → Result (Unit {0}) Refusal → Answer
   as_checked L S c = answer.Decide (answered c (decision_of L q S))
 
-  alike_decides : (S : Standing) (k : ℕ) →
-      (k ≡ width_of M → AnswersDecide M q S (Some (as_checked M S (decide_checked M S k)))) →
-      (k ≡ width_of N → AnswersDecide N q S (Some (as_checked N S (decide_checked N S k)))) →
-      AlikeAnswers M q S (as_checked M S (decide_checked M S k)) (as_checked N S (decide_checked N S k))
-  alike_decides S k = rw wide (decide_by_checks M S k
-      (λ c. (k ≡ width_of M → AnswersDecide M q S (Some (as_checked M S c))) →
-      (k ≡ width_of M → AnswersDecide N q S (Some (as_checked N S c))) →
-      AlikeAnswers M q S (as_checked M S c) (as_checked N S c))
+  -- so checked, two decides are answered alike, where a place that fits is answered as a block promises
+  abbrev AlikeAt : Standing → ℕ → (c d : Result (Unit {0}) Refusal) → Type 0
+  AlikeAt S k c d =
+      (k ≡ width_of M → AnswersDecide M q S (Some (as_checked M S c))) →
+      (k ≡ width_of N → AnswersDecide N q S (Some (as_checked N S d))) →
+      AlikeAnswers M q S (as_checked M S c) (as_checked N S d)
+
+  alike_decides : (S : Standing) (k : ℕ) → AlikeAt S k (decide_checked M S k) (decide_checked N S k)
+  alike_decides S k =
+      let alike = decided_alike S (decision_of M q S) (decision_of N q S) in
+      let same : decide_checked N S k ≡ decide_checked M S k = rw wide refl in
+      subst (AlikeAt S k (decide_checked M S k)) (sym same) (decide_by_checks M S k (λ c. AlikeAt S k c c)
       (λ other f g. record { but_for_points = refl; one_point = λ d e is. cc })
       (λ fits none f g. record { but_for_points = refl; one_point = λ d e is. cc })
-      (λ fits some f g.
-      decided_alike S (decision_of M q S) (decision_of N q S) (λ none. omega arith) (f fits) (g fits)))
+      (λ fits some f g. alike (λ none. omega arith) (f fits) (g (fits ∙ sym wide))))
 
   alike_answers : (S : Standing) (c : Call) →
       (c ≡ call.Decide (width_of M) → AnswersDecide M q S (Some (answer_to M q S c))) →

@@ -24,6 +24,7 @@ use finders::points::PointFinder;
 
 /// Any block is closed, or open at some step where some senses stand: so what the contracts say of these two cases is
 /// said of every block.
+#[tactic(auto, using(crate::proofs::SameBlock::closed_or_open))]
 pub fn a_block_is_closed_or_open<F: PointFinder>(block: &Block<F>)
     ensures closed_or_open { ∥ IsClosed block.now ⊎ ((q : ℕ) × (S : Standing) × Stands q S block.now) ∥₁ }
 {}
@@ -37,6 +38,7 @@ pub fn senses_of_equal_sums_stand_alike<F: PointFinder>(block: &Block<F>)
 {}
 
 /// The total of a point is its squared distance from each sense, added over the senses, in whatever order they came.
+#[tactic(auto, using(crate::proofs::SumLaws::total_in_any_order))]
 pub fn the_total_is_added_over_the_senses()
     ensures nothing_for_no_sense { (q : ℕ) (x : List ℤ) → total q [] x ≡ 0 }
     ensures one_sense_more { (q : ℕ) (rs x : List ℤ) (ss : List (List ℤ)) →
@@ -46,6 +48,7 @@ pub fn the_total_is_added_over_the_senses()
 {}
 
 /// The sum of a cell is that of its readings.
+#[tactic(auto, using(crate::proofs::SumLaws::sum_at))]
 pub fn the_sums_are_of_the_readings_of_each_cell()
     ensures cell_by_cell { (n i : ℕ) (ss : List (List ℤ)) → AreSenses n ss → i < n →
         slice_index_or (sums n ss) i (pos 0) ≡ sumℤ (map (λ rs. slice_index_or rs i (pos 0)) ss) }
@@ -85,6 +88,7 @@ pub fn the_calls_say_which_senses_stand<F: PointFinder>(finder: &F)
 {}
 
 /// A point stands at the front of the answer that has it, with zeros behind it.
+#[tactic(auto, using(crate::proofs::Padding::short_padded))]
 pub fn an_answer_begins_with_its_point()
     ensures zeros_behind_the_point { (x : List ℤ) → length x ≤ 32 → padded x ≡ x ++ zeros (32 - length x) }
 {}
