@@ -1,9 +1,8 @@
 -- Two runs of the same calls, at one step over finders of one set.
-use Rattle.std.proofs.Common.{◌≡◌, ℕ, zero, suc, List, [], ◌∷◌, take, ◌≤◌, Some, Ok, Err, Result, sym, refl, ap, ap₂, ◌∙◌, subst, arith}
+use Rattle.std.proofs.Common.{◌≡◌, ℕ, zero, suc, List, [], ◌∷◌, take, ◌≤◌, Some, Ok, Err, Result, sym, refl, ap, ◌∙◌, subst, arith}
 use Rattle.std.specs.List.{slice_get, AllByRecursion}
 use Rattle.std.proofs.Math.Decide.{ℕ_discrete}
 use Rattle.std.proofs.lemmas.Bool.{eq-eqb, ne_eqb, le-leb}
-use Rattle.integers.specs.Sums.{zeros}
 use Rattle.finders.specs.declared.refusals.Refusal.{Refusal}
 use Rattle.finders.specs.declared.refusals.Refusal.TheVariants.{Length, Empty}
 use Rattle.finders.specs.Meanings.{Meaning, answered}
@@ -16,7 +15,7 @@ use Rattle.blocks.specs.declared.calls.Decision.{Decision}
 use Rattle.blocks.specs.Senses.{IsAttainedAtMostOnce, Standing, none_standing, count_of}
 use Rattle.blocks.specs.Calls.{open_checked, decide_checked, decision_of, padded}
 use Rattle.blocks.specs.Calls.{after_call, after_calls, answer_to, answers_from, answers_to}
-use Rattle.blocks.specs.Runs.{AnswersDecide, EachDecideHasTheLeastTotal, but_for_the_point, AnsweredAlike}
+use Rattle.blocks.specs.Runs.{AnswersDecide, EachDecideHasTheLeastTotal, Alike, AnsweredAlike}
 use Rattle.blocks.specs.Runs.{OnePointWhereOneHasTheTotal}
 use Rattle.blocks.specs.CallLists.{HasSmallReadings}
 use Rattle.blocks.proofs.CallLists.{small_readings_are_senses}
@@ -37,8 +36,8 @@ decide_by_checks M S k P other none some = elim (ℕ_discrete k (width_of M)) [
 ]
 
 -- two answers to one call, where S stands: the same but for the point, which is one where one has the total
-record AlikeAnswers (M : Meaning PointFit) (q : ℕ) (S : Standing) (a b : Answer) : Type 0 where
-  but_for_points : but_for_the_point a ≡ but_for_the_point b
+record AnswerOneCall (M : Meaning PointFit) (q : ℕ) (S : Standing) (a b : Answer) : Type 0 where
+  alike : Alike a b
   one_point : (d e : Decision) → a ≡ answer.Decide (Ok d) → b ≡ answer.Decide (Ok e) →
       IsAttainedAtMostOnce M q S.senses d.total → d.point ≡ e.point
 
@@ -58,7 +57,7 @@ module _ (M N : Meaning PointFit) (q : ℕ) (set : OneSet M N) (wide : width_of 
 
   decided_alike : (S : Standing) (d e : Decision) → (count_of S ≡ 0 → ⊥) →
       AnswersDecide M q S (Some (answer.Decide (Ok d))) → AnswersDecide N q S (Some (answer.Decide (Ok e))) →
-      AlikeAnswers M q S (answer.Decide (Ok d)) (answer.Decide (Ok e))
+      AnswerOneCall M q S (answer.Decide (Ok d)) (answer.Decide (Ok e))
   decided_alike S d e some f g =
       let x = f.least_total_otherwise some in
       let y = g.least_total_otherwise some in
@@ -66,7 +65,7 @@ module _ (M N : Meaning PointFit) (q : ℕ) (set : OneSet M N) (wide : width_of 
       let at_y : e ≡ record { point = padded y.point; total = y.total } = cc (y.is_answered) in
       let total = one_total set x.is_the_least y.is_the_least in
       rw (at_x, at_y) (record {
-        but_for_points = ap (λ (n : ℕ). answer.Decide (Ok (record { point = zeros 32; total = n }))) total;
+        alike = total;
         one_point = λ v w is other alone.
             let at_v : record { point = padded x.point; total = x.total } ≡ v = cc in
             let at_w : record { point = padded y.point; total = y.total } ≡ w = cc in
@@ -83,23 +82,23 @@ module _ (M N : Meaning PointFit) (q : ℕ) (set : OneSet M N) (wide : width_of 
   AlikeAt S k c d =
       (k ≡ width_of M → AnswersDecide M q S (Some (as_checked M S c))) →
       (k ≡ width_of N → AnswersDecide N q S (Some (as_checked N S d))) →
-      AlikeAnswers M q S (as_checked M S c) (as_checked N S d)
+      AnswerOneCall M q S (as_checked M S c) (as_checked N S d)
 
   alike_decides : (S : Standing) (k : ℕ) → AlikeAt S k (decide_checked M S k) (decide_checked N S k)
   alike_decides S k =
       let alike = decided_alike S (decision_of M q S) (decision_of N q S) in
       let same : decide_checked N S k ≡ decide_checked M S k = rw wide refl in
       subst (AlikeAt S k (decide_checked M S k)) (sym same) (decide_by_checks M S k (λ c. AlikeAt S k c c)
-      (λ other f g. record { but_for_points = refl; one_point = λ d e is. cc })
-      (λ fits none f g. record { but_for_points = refl; one_point = λ d e is. cc })
+      (λ other f g. record { alike = refl; one_point = λ d e is. cc })
+      (λ fits none f g. record { alike = refl; one_point = λ d e is. cc })
       (λ fits some f g. alike (λ none. omega arith) (f fits) (g (fits ∙ sym wide))))
 
   alike_answers : (S : Standing) (c : Call) →
       (c ≡ call.Decide (width_of M) → AnswersDecide M q S (Some (answer_to M q S c))) →
       (c ≡ call.Decide (width_of N) → AnswersDecide N q S (Some (answer_to N q S c))) →
-      AlikeAnswers M q S (answer_to M q S c) (answer_to N q S c)
-  alike_answers S (call.Sense rs) f g = record { but_for_points = rw wide refl; one_point = λ d e is. cc }
-  alike_answers S call.Clear f g = record { but_for_points = refl; one_point = λ d e is. cc }
+      AnswerOneCall M q S (answer_to M q S c) (answer_to N q S c)
+  alike_answers S (call.Sense rs) f g = record { alike = rw wide refl; one_point = λ d e is. cc }
+  alike_answers S call.Clear f g = record { alike = refl; one_point = λ d e is. cc }
   alike_answers S (call.Decide k) f g = alike_decides S k (λ e. f (ap call.Decide e)) (λ e. g (ap call.Decide e))
 
   -- ---- one call after the other
@@ -109,16 +108,16 @@ module _ (M N : Meaning PointFit) (q : ℕ) (set : OneSet M N) (wide : width_of 
   later S c cs e = subst (λ (T : Standing). DecidesFrom N q T cs) (same_after_call S c) (λ i. e (suc i))
 
   alike_head : (S : Standing) (c : Call) (cs : List Call) → DecidesFrom M q S (c ∷ cs) → DecidesFrom N q S (c ∷ cs) →
-      AlikeAnswers M q S (answer_to M q S c) (answer_to N q S c)
+      AnswerOneCall M q S (answer_to M q S c) (answer_to N q S c)
   alike_head S c cs d e = alike_answers S c (λ is. d 0 (ap Some is)) (λ is. e 0 (ap Some is))
 
   alike_from : (S : Standing) (cs : List Call) → DecidesFrom M q S cs → DecidesFrom N q S cs →
       AnsweredAlike (answers_from M q S cs) (answers_from N q S cs)
-  alike_from S [] d e = refl
+  alike_from S [] d e = tt
   alike_from S (c ∷ cs) d e =
       let head = alike_head S c cs d e in
       let tail = alike_from (after_call M q S c) cs (λ i. d (suc i)) (later S c cs e) in
-      rw (same_after_call S c) (ap₂ (λ (a : Answer) (l : List Answer). a ∷ l) head.but_for_points tail)
+      rw (same_after_call S c) (head.alike, tail)
 
   one_point_from : (S : Standing) (cs : List Call) → DecidesFrom M q S cs → DecidesFrom N q S cs →
       (i : ℕ) (a b : Decision) →

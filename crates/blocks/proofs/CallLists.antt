@@ -1,6 +1,6 @@
 -- Lists of calls: what stands after them, in words; and lists that are the same calls.
 use Rattle.std.proofs.Common.{◌≡◌, ℕ, zero, suc, ◌-◌, ◌<◌, ◌≤◌, List, [], ◌∷◌, ◌++◌, length, take, reverse, ℤ, sym, refl}
-use Rattle.std.proofs.Common.{ap, ◌∙◌, arith, rules, zero-le, append_assoc}
+use Rattle.std.proofs.Common.{ap, ◌∙◌, arith, rules, zero-le, append_assoc, ◌⊎◌, inl, inr}
 use Rattle.std.specs.List.{AllByRecursion}
 use Rattle.std.proofs.lemmas.List.{reverse-append, append-nil, take_all}
 use Rattle.finders.specs.Meanings.{Meaning}
@@ -10,7 +10,7 @@ use Rattle.blocks.specs.declared.calls.Call.TheVariants as call
 use Rattle.blocks.specs.Senses.{Standing, none_standing, one_more, count_of}
 use Rattle.blocks.specs.Tally.{AreSenses}
 use Rattle.blocks.specs.Calls.{depth, after_sense, after_call, after_calls, standing, answer_to, answers_from}
-use Rattle.blocks.specs.CallLists.{SameCall, SameCalls, HasNoClear, senses_of_width, HasSmallReadings}
+use Rattle.blocks.specs.CallLists.{SameCall, SameCalls, HasNoClear, EndsAfterAClear, senses_of_width, HasSmallReadings}
 use Rattle.blocks.proofs.RunLaws.{AllAreSenses}
 
 module _ (M : Meaning PointFit) (q : ℕ) where
@@ -92,3 +92,27 @@ module _ (M : Meaning PointFit) (q : ℕ) where
       let rest = same_answers (after_call M q S d) cs ds h.1 in
       rw (same_answer S c d h.0, same_after_call S c d h.0, rest) refl
   same_answers S _ _ h = absurd h
+
+pub same_as_itself : (cs : List Call) → SameCalls cs cs
+same_as_itself [] = tt
+same_as_itself (call.Sense rs ∷ cs) = (refl, same_as_itself cs)
+same_as_itself (call.Clear ∷ cs) = (tt, same_as_itself cs)
+same_as_itself (call.Decide k ∷ cs) = (refl, same_as_itself cs)
+
+-- a list of calls has no clear, or a last one
+pub last_clear : (cs : List Call) → HasNoClear cs ⊎ EndsAfterAClear cs
+last_clear [] = inl tt
+last_clear (c ∷ cs) = elim (last_clear cs) [
+  | inl none ↦ at_head c none
+  | inr later ↦ inr (record {
+    before = c ∷ later.before;
+    after = later.after;
+    is = ap (λ (l : List Call). c ∷ l) later.is;
+    has_none_after = later.has_none_after;
+  })
+]
+  where
+    at_head : (c : Call) → HasNoClear cs → HasNoClear (c ∷ cs) ⊎ EndsAfterAClear (c ∷ cs)
+    at_head (call.Sense rs) none = inl none
+    at_head call.Clear none = inr (record { before = []; after = cs; is = refl; has_none_after = none })
+    at_head (call.Decide k) none = inl none

@@ -2,6 +2,7 @@
 use Rattle.std.proofs.Common.{◌≡◌, ℕ, zero, suc, ◌<◌, ◌≤◌, List, [], ◌∷◌, ◌++◌, length, take, ℤ, Some, Ok, Option}
 use Rattle.std.proofs.Common.{refl, ap, ◌∙◌, arith, rules}
 use Rattle.std.specs.List.{slice_get}
+use Rattle.std.proofs.lemmas.Bool.{ne_eqb}
 use Rattle.std.proofs.lemmas.Option.{slice_get_within}
 use Rattle.finders.specs.Meanings.{Meaning, answered}
 use Rattle.finders.specs.PointFinders.{PointFit, Lawful, width_of}
@@ -14,7 +15,7 @@ use Rattle.blocks.specs.Tally.{AreSenses}
 use Rattle.blocks.specs.Calls.{depth, open_checked, sense_checked}
 use Rattle.blocks.specs.Calls.{after_call, after_calls, standing, answer_to, answers_from, answers_to}
 use Rattle.blocks.specs.Runs.{standing_before, AnswersSense, EachSenseIsGrantedUnlessFull}
-use Rattle.blocks.specs.Runs.{AnswersDecide, EachDecideHasTheLeastTotal}
+use Rattle.blocks.specs.Runs.{EachClearTellsHowManyStood, EachMisfitIsRefused, AnswersDecide, EachDecideHasTheLeastTotal}
 use Rattle.blocks.proofs.Deciding.{least}
 
 module _ (M : Meaning PointFit) (q : ℕ) where
@@ -63,6 +64,25 @@ module _ (M : Meaning PointFit) (q : ℕ) where
   each_sense cs answers is i rs here wide =
       let told = ap (λ (l : List Answer). slice_get l i) is ∙ answer_at none_standing cs i (call.Sense rs) here in
       sense_answered (standing_before M q cs i) rs.now (slice_get answers i) wide (few_standing (take i cs)) told
+
+  -- ---- what a clear, and what does not fit, is answered
+
+  pub each_clear : (cs : List Call) (answers : List Answer) → answers ≡ answers_to M q cs →
+      EachClearTellsHowManyStood M q cs answers
+  each_clear cs answers is i here =
+      ap (λ (l : List Answer). slice_get l i) is ∙ answer_at none_standing cs i call.Clear here
+
+  pub each_misfit : (cs : List Call) (answers : List Answer) → answers ≡ answers_to M q cs →
+      EachMisfitIsRefused M cs answers
+  each_misfit cs answers is = record {
+    senses = λ i rs here other.
+        told i (call.Sense rs) here ∙ rw (ne_eqb (length rs.now) (width_of M) other) refl;
+    decides = λ i k here other. told i (call.Decide k) here ∙ rw (ne_eqb k (width_of M) other) refl;
+  }
+    where
+      told : (i : ℕ) (c : Call) → slice_get cs i ≡ Some c →
+          slice_get answers i ≡ Some (answer_to M q (standing_before M q cs i) c)
+      told i c here = ap (λ (l : List Answer). slice_get l i) is ∙ answer_at none_standing cs i c here
 
   -- ---- what a decide of a fitting place is answered
 

@@ -1,5 +1,5 @@
 -- Lists of calls: which are the same, which have no clear among them, and the senses in them.
-use Rattle.std.specs.Prelude.{◌≡◌, ℕ, true, cond, List, [], ◌∷◌, length, ℤ, ◌==◌}
+use Rattle.std.specs.Prelude.{◌≡◌, ℕ, true, cond, List, [], ◌∷◌, ◌++◌, length, ℤ, ◌==◌}
 use Rattle.finders.specs.Points.{within}
 use Rattle.blocks.specs.Senses.{largest_reading}
 use Rattle.blocks.specs.declared.calls.Call.{Call}
@@ -22,6 +22,13 @@ HasNoClear [] = Unit {0}
 HasNoClear (call.Clear ∷ cs) = ⊥
 HasNoClear (c ∷ cs) = HasNoClear cs
 
+-- the calls up to a clear, and calls behind it that have none
+pub record EndsAfterAClear (cs : List Call) : Type 0 where
+  pub before : List Call
+  pub after : List Call
+  pub is : cs ≡ before ++ call.Clear ∷ after
+  pub has_none_after : HasNoClear after
+
 -- the readings of the senses of n cells, in the order of the calls
 abbrev pub senses_of_width : ℕ → List Call → List (List ℤ)
 senses_of_width n [] = []
@@ -30,7 +37,7 @@ senses_of_width n (call.Sense rs ∷ cs) =
     cond (length rs.now == n) (rs.now ∷ rest) rest
 senses_of_width n (c ∷ cs) = senses_of_width n cs
 
--- no reading is beyond 16 bits, as in any call that the code makes
+-- no reading is beyond 16 bits: so it is of every call in code, where a reading is an `i16`
 abbrev pub HasSmallReadings : Call → Type 0
 HasSmallReadings (call.Sense rs) = within largest_reading rs.now ≡ true
 HasSmallReadings call.Clear = Unit {0}

@@ -1,9 +1,8 @@
 -- Runs of calls, in the order in which a block answers them, from its opening on. What stands before a call follows
 -- from the calls before it alone.
-use Rattle.std.specs.Prelude.{◌≡◌, ◌≢◌, ℕ, suc, ◌&&◌, ◌↔◌, ◌==◌, List, length, take, map, slice_get, ℤ}
+use Rattle.std.specs.Prelude.{◌≡◌, ◌≢◌, ℕ, suc, ◌&&◌, ◌↔◌, ◌==◌, List, [], ◌∷◌, length, take, slice_get, ℤ}
 use Rattle.std.specs.Prelude.{Ok, Err, Result, Some, Option}
 use Rattle.std.specs.Borrow.{Bor}
-use Rattle.integers.specs.Sums.{zeros}
 use Rattle.finders.specs.declared.refusals.Refusal.{Refusal}
 use Rattle.finders.specs.declared.refusals.Refusal.TheVariants.{Length, Full, Empty}
 use Rattle.finders.specs.Meanings.{Meaning, checked, and_then}
@@ -14,7 +13,7 @@ use Rattle.blocks.specs.declared.calls.Answer.{Answer}
 use Rattle.blocks.specs.declared.calls.Answer.TheVariants as answer
 use Rattle.blocks.specs.declared.calls.Decision.{Decision}
 use Rattle.blocks.specs.Senses.{Standing, count_of, IsLeastTotal, IsAttainedAtMostOnce}
-use Rattle.blocks.specs.Calls.{depth, open_checked, standing, padded}
+use Rattle.blocks.specs.Calls.{depth, open_checked, standing, padded, answers_to}
 
 -- what a run is refused for, first that applies; a is the number of places for the answers
 abbrev pub run_checked : Meaning PointFit → ℕ → List Call → ℕ → Result (Unit {0}) Refusal
@@ -55,6 +54,29 @@ EachDecideHasTheLeastTotal M q cs answers =
     (i : ℕ) → slice_get cs i ≡ Some (call.Decide (width_of M)) →
     AnswersDecide M q (standing_before M q cs i) (slice_get answers i)
 
+-- ---- clears, and calls that do not fit
+
+abbrev pub EachClearTellsHowManyStood : Meaning PointFit → ℕ → List Call → List Answer → Type 0
+EachClearTellsHowManyStood M q cs answers =
+    (i : ℕ) → slice_get cs i ≡ Some call.Clear →
+    slice_get answers i ≡ Some (answer.Clear (Ok (count_of (standing_before M q cs i))))
+
+-- a sense that has not a reading for each cell, and a decide whose place has not a number for each, whatever stands
+pub record EachMisfitIsRefused (M : Meaning PointFit) (cs : List Call) (answers : List Answer) : Type 0 where
+  pub senses : (i : ℕ) (rs : Bor (List ℤ)) → slice_get cs i ≡ Some (call.Sense rs) → length rs.now ≢ width_of M →
+      slice_get answers i ≡ Some (answer.Sense (Err Length))
+  pub decides : (i k : ℕ) → slice_get cs i ≡ Some (call.Decide k) → k ≢ width_of M →
+      slice_get answers i ≡ Some (answer.Decide (Err Length))
+
+-- ---- a whole run: these are the answers to the calls, each as it should be
+
+pub record AnswersTheRun (M : Meaning PointFit) (q : ℕ) (cs : List Call) (answers : List Answer) : Type 0 where
+  pub follow_from_the_calls_alone : answers ≡ answers_to M q cs
+  pub each_sense_is_granted_unless_full : EachSenseIsGrantedUnlessFull M q cs answers
+  pub each_clear_tells_how_many_stood : EachClearTellsHowManyStood M q cs answers
+  pub each_decide_has_the_least_total : EachDecideHasTheLeastTotal M q cs answers
+  pub each_misfit_is_refused : EachMisfitIsRefused M cs answers
+
 -- ---- two runs of the same calls
 
 -- what two runs are refused for, first that applies; a and b are the numbers of places for the answers
@@ -62,15 +84,18 @@ abbrev pub crosscheck_checked : (M N : Meaning PointFit) → ℕ → List Call �
 crosscheck_checked M N q cs a b =
     checked (a == length cs && b == length cs) Length (and_then (open_checked M q) (open_checked N q))
 
--- an answer but for the point that is decided
-abbrev pub but_for_the_point : Answer → Answer
-but_for_the_point (answer.Decide (Ok d)) = answer.Decide (Ok (record { point = zeros 32; total = d.total }))
-but_for_the_point (answer.Decide (Err e)) = answer.Decide (Err e)
-but_for_the_point (answer.Sense r) = answer.Sense r
-but_for_the_point (answer.Clear r) = answer.Clear r
+-- two answers are the same, but for the point that is decided
+abbrev pub Alike : Answer → Answer → Type 0
+Alike (answer.Sense r) (answer.Sense s) = r ≡ s
+Alike (answer.Clear r) (answer.Clear s) = r ≡ s
+Alike (answer.Decide (Ok d)) (answer.Decide (Ok e)) = d.total ≡ e.total
+Alike (answer.Decide (Err e)) (answer.Decide (Err f)) = e ≡ f
+Alike _ _ = ⊥
 
 abbrev pub AnsweredAlike : List Answer → List Answer → Type 0
-AnsweredAlike answers others = map but_for_the_point answers ≡ map but_for_the_point others
+AnsweredAlike [] [] = Unit {0}
+AnsweredAlike (a ∷ answers) (b ∷ others) = Alike a b × AnsweredAlike answers others
+AnsweredAlike _ _ = ⊥
 
 -- the decided points are the same where no two points of the set have the total
 abbrev pub OnePointWhereOneHasTheTotal : Meaning PointFit → ℕ → List Call → List Answer → List Answer → Type 0

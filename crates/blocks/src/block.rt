@@ -6,15 +6,15 @@ use super::opened::Opened;
 use finders::points::{MOST_CELLS, PointFinder};
 use finders::refusals::Refusal;
 
-// The most senses that stand at once.
-const MOST_SENSES: u32 = 64;
+/// The most senses that stand at once.
+pub const MOST_SENSES: u32 = 64;
 
 // The largest size of the sum of so many readings of 16 bits.
 const MOST_SUM: u32 = MOST_SENSES << 15;
 
 /// A group of cells over a finder of points, closed or open at a step. While it is open it takes senses, adds them
-/// up, and decides the point of least total: maximum likelihood over independent Gaussian noise. It holds the finder
-/// by value, and allocates nothing.
+/// up, and decides a point of least total: maximum likelihood over independent Gaussian noise. It holds the finder by
+/// value, and allocates nothing.
 #[derive(Drop)]
 pub struct Block<F: PointFinder> {
     finder: F,
@@ -32,7 +32,8 @@ impl<F: PointFinder> Block<F> {
     ghost use Rattle.blocks.specs.Calls.{decide_answer, decide_place, DecideOutcome, decision_answer};
     ghost use Rattle.blocks.specs.Calls.{answer_to, closed_answer, IsRefused, after_call, answers_to, standing};
     ghost use Rattle.blocks.specs.Block.{finder_of, meaning_of, IsClosed, Stands, IfOpen};
-    ghost use Rattle.blocks.specs.Runs.{run_checked, EachSenseIsGrantedUnlessFull, EachDecideHasTheLeastTotal};
+    ghost use Rattle.blocks.specs.Runs.{run_checked, EachSenseIsGrantedUnlessFull, EachClearTellsHowManyStood};
+    ghost use Rattle.blocks.specs.Runs.{EachDecideHasTheLeastTotal, EachMisfitIsRefused};
 
     /// A closed block over the finder, fit or not.
     pub fn new(finder: F) -> Block<F>
@@ -108,10 +109,10 @@ impl<F: PointFinder> Block<F> {
         }
     }
 
-    /// Writes the point of least total over the senses that stand into the place, one number for each cell, and
-    /// answers the total: the squares of (reading - step * coordinate), added over the cells and the senses. Refused,
-    /// first that applies, with the place left as it was: 13 where the block is closed; 2 unless the place has one
-    /// number for each cell; 12 where no sense stands.
+    /// Writes a point of least total over the senses that stand into the place, one number for each cell, and answers
+    /// the total: the squares of (reading - step * coordinate), added over the cells and the senses. Of several such
+    /// points it is the one that the finder picks for the sums. Refused, first that applies, with the place left as it
+    /// was: 13 where the block is closed; 2 unless the place has one number for each cell; 12 where no sense stands.
     pub fn decide(&self, place: &mut [i32]) -> Result<u64, Refusal>
         ensures a_closed_block_refuses { IsClosed self.now → result ≡ Err Closed }
         ensures answers_the_total { IfOpen self.now (λ q S.
@@ -167,7 +168,7 @@ impl<F: PointFinder> Block<F> {
         })
     }
 
-    /// Makes a call that is told by a value, and answers as the call does; a decide writes into a place of zeros.
+    /// Makes a call that is given as a value, and answers as that call does.
     pub fn make(&mut self, call: Call<'_>) -> Answer
         ensures a_closed_block_refuses { IsClosed self.old → result ≡ closed_answer call.entry }
         ensures answers_the_call { IfOpen self.old (λ q S. result ≡ answer_to (meaning_of self.old) q S call.entry) }
@@ -184,7 +185,8 @@ impl<F: PointFinder> Block<F> {
     }
 
     /// Opens the block at a step, makes the calls in order, and writes what each was answered, refusals too. Refused,
-    /// with block and answers left as they were: 2 unless there is a place for each answer; else as opening is.
+    /// with block and answers left as they were: 2 unless there are as many places for answers as calls; else as
+    /// opening is.
     pub fn run(
         &mut self,
         step: u32,
@@ -200,8 +202,12 @@ impl<F: PointFinder> Block<F> {
             Stands step (standing (meaning_of self.old) step calls.now) self.new) }
         ensures each_sense_is_granted_unless_full { OnOk result (
             EachSenseIsGrantedUnlessFull (meaning_of self.old) step calls.now answers.new) }
+        ensures each_clear_tells_how_many_stood { OnOk result (
+            EachClearTellsHowManyStood (meaning_of self.old) step calls.now answers.new) }
         ensures each_decide_has_the_least_total { OnOk result (
             EachDecideHasTheLeastTotal (meaning_of self.old) step calls.now answers.new) }
+        ensures each_misfit_is_refused { OnOk result (
+            EachMisfitIsRefused (meaning_of self.old) calls.now answers.new) }
     {
         if answers.len() != calls.len() {
             return Err(Refusal::Length);

@@ -9,6 +9,7 @@ use finders::refusals::Refusal;
 pub enum Call<'a> {
     /// One reading for each cell.
     Sense(&'a [i16]),
+    /// Removes what stands.
     Clear,
     /// With the length of the place.
     Decide(usize),
@@ -29,6 +30,7 @@ pub enum Answer {
     Sense(Result<u32, Refusal>),
     /// How many senses were removed.
     Clear(Result<u32, Refusal>),
+    /// What was decided.
     Decide(Result<Decision, Refusal>),
 }
 

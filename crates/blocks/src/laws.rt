@@ -10,9 +10,10 @@ ghost use Rattle.blocks.specs.Senses.{Standing, none_standing, count_of};
 ghost use Rattle.blocks.specs.Tally.{AreSenses};
 ghost use Rattle.blocks.specs.Calls.{depth, open_checked, decided_point, decided_total, padded};
 ghost use Rattle.blocks.specs.Calls.{after_call, standing, answers_to};
-ghost use Rattle.blocks.specs.CallLists.{SameCalls, HasNoClear, senses_of_width, HasSmallReadings};
+ghost use Rattle.blocks.specs.CallLists.{SameCalls, HasNoClear, EndsAfterAClear, senses_of_width, HasSmallReadings};
 ghost use Rattle.blocks.specs.Block.{meaning_of, IsClosed, Stands};
-ghost use Rattle.blocks.specs.Runs.{EachSenseIsGrantedUnlessFull, EachDecideHasTheLeastTotal};
+ghost use Rattle.blocks.specs.Runs.{EachSenseIsGrantedUnlessFull, EachClearTellsHowManyStood};
+ghost use Rattle.blocks.specs.Runs.{EachDecideHasTheLeastTotal, EachMisfitIsRefused};
 ghost use Rattle.blocks.specs.Runs.{AnsweredAlike, OnePointWhereOneHasTheTotal};
 
 use super::block::Block;
@@ -80,6 +81,7 @@ pub fn the_calls_say_which_senses_stand<F: PointFinder>(finder: &F)
         standing M q (cs ++ c ∷ []) ≡ after_call M q (standing M q cs) c }
     ensures a_clear_ends_what_was_before { (q : ℕ) (cs ds : List Call) → let M = F.meaning finder.now in
         standing M q (cs ++ Call.Clear ∷ ds) ≡ standing M q ds }
+    ensures a_last_clear_or_none { (cs : List Call) → HasNoClear cs ⊎ EndsAfterAClear cs }
     ensures the_first_of_fitting_width_stand { (q : ℕ) (cs : List Call) → HasNoClear cs →
         let M = F.meaning finder.now in
         (standing M q cs).senses ≡ reverse (take (depth M q) (senses_of_width (width_of M) cs)) }
@@ -93,10 +95,15 @@ pub fn an_answer_begins_with_its_point()
     ensures zeros_behind_the_point { (x : List ℤ) → length x ≤ 32 → padded x ≡ x ++ zeros (32 - length x) }
 {}
 
-/// Any calls, and not only those that a machine has room for, are answered as `Block::run` says.
+/// Any calls, and not only those that a machine has room for, are answered as `Block::run` says, at a step at which
+/// a block opens and with readings of 16 bits.
 pub fn any_run_is_answered_as_promised<F: PointFinder>(finder: &F)
     ensures each_sense_is_granted_unless_full { (q : ℕ) (cs : List Call) → let M = F.meaning finder.now in
         EachSenseIsGrantedUnlessFull M q cs (answers_to M q cs) }
+    ensures each_clear_tells_how_many_stood { (q : ℕ) (cs : List Call) → let M = F.meaning finder.now in
+        EachClearTellsHowManyStood M q cs (answers_to M q cs) }
+    ensures each_misfit_is_refused { (q : ℕ) (cs : List Call) → let M = F.meaning finder.now in
+        EachMisfitIsRefused M cs (answers_to M q cs) }
     ensures each_decide_has_the_least_total { (q : ℕ) (cs : List Call) → let M = F.meaning finder.now in
         open_checked M q ≡ Ok tt → AllByRecursion HasSmallReadings cs →
         EachDecideHasTheLeastTotal M q cs (answers_to M q cs) }
@@ -105,6 +112,7 @@ pub fn any_run_is_answered_as_promised<F: PointFinder>(finder: &F)
 /// The same calls, from wherever their readings are lent, are answered alike: by one finder in all, by finders of one
 /// set but for the points that are decided, and these are the same where no two points have the total.
 pub fn same_calls_are_answered_alike<F: PointFinder, G: PointFinder>(one: &F, other: &G)
+    ensures each_list_has_the_calls_of_itself { (cs : List Call) → SameCalls cs cs }
     ensures by_one_finder { (q : ℕ) (cs ds : List Call) → let M = F.meaning one.now in
         SameCalls cs ds → answers_to M q cs ≡ answers_to M q ds }
     ensures by_finders_of_one_set { let M = F.meaning one.now in let N = G.meaning other.now in
@@ -117,7 +125,7 @@ pub fn same_calls_are_answered_alike<F: PointFinder, G: PointFinder>(one: &F, ot
 {}
 
 /// Over finders of one set, where the same senses stand, there is one least total, and one point where no two have
-/// it; and the widths are one. So two blocks that are called one by one, and not by a run, are answered alike too.
+/// it; and the widths are one.
 pub fn finders_of_one_set_have_one_least_total<F: PointFinder, G: PointFinder>(one: &F, other: &G)
     ensures one_width { let M = F.meaning one.now in let N = G.meaning other.now in
         OneSet M N → (q : ℕ) → open_checked M q ≡ Ok tt → open_checked N q ≡ Ok tt → width_of N ≡ width_of M }

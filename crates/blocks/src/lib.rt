@@ -1,4 +1,4 @@
-//! The block: it adds the senses of a group of cells, and decides the point of least total over any finder of points.
+//! The block: it adds the senses of a group of cells, and decides a point of least total over any finder of points.
 #![tactic(auto)]
 
 pub mod block;

@@ -1,9 +1,8 @@
 ghost use Rattle.std.specs.Prelude.{◌≡◌, length, OnOk, OnErr};
 ghost use Rattle.finders.specs.PointFinders.{OneSet};
-ghost use Rattle.blocks.specs.Calls.{standing, answers_to};
+ghost use Rattle.blocks.specs.Calls.{standing};
 ghost use Rattle.blocks.specs.Block.{finder_of, meaning_of, Stands};
-ghost use Rattle.blocks.specs.Runs.{crosscheck_checked, EachSenseIsGrantedUnlessFull, EachDecideHasTheLeastTotal};
-ghost use Rattle.blocks.specs.Runs.{AnsweredAlike, OnePointWhereOneHasTheTotal};
+ghost use Rattle.blocks.specs.Runs.{crosscheck_checked, AnswersTheRun, AnsweredAlike, OnePointWhereOneHasTheTotal};
 
 use super::block::Block;
 use super::calls::{Answer, Call};
@@ -27,20 +26,14 @@ pub fn crosscheck<F: PointFinder, G: PointFinder>(
     ensures a_refusal_changes_no_block { OnErr result ((one.new ≡ one.old) × (other.new ≡ other.old)) }
     ensures a_refusal_leaves_the_answers { OnErr result ((answers.new ≡ answers.old) × (others.new ≡ others.old)) }
     ensures keeps_the_finders { (finder_of one.new ≡ finder_of one.old) × (finder_of other.new ≡ finder_of other.old) }
-    ensures answers_of_the_one { OnOk result (answers.new ≡ answers_to (meaning_of one.old) step calls.now) }
-    ensures answers_of_the_other { OnOk result (others.new ≡ answers_to (meaning_of other.old) step calls.now) }
+    ensures the_one_answers_the_run { OnOk result (
+        AnswersTheRun (meaning_of one.old) step calls.now answers.new) }
+    ensures the_other_answers_the_run { OnOk result (
+        AnswersTheRun (meaning_of other.old) step calls.now others.new) }
     ensures the_calls_say_what_stands_in_the_one { OnOk result (
         Stands step (standing (meaning_of one.old) step calls.now) one.new) }
     ensures the_calls_say_what_stands_in_the_other { OnOk result (
         Stands step (standing (meaning_of other.old) step calls.now) other.new) }
-    ensures the_one_grants_each_sense_unless_full { OnOk result (
-        EachSenseIsGrantedUnlessFull (meaning_of one.old) step calls.now answers.new) }
-    ensures the_other_grants_each_sense_unless_full { OnOk result (
-        EachSenseIsGrantedUnlessFull (meaning_of other.old) step calls.now others.new) }
-    ensures the_one_decides_the_least_total { OnOk result (
-        EachDecideHasTheLeastTotal (meaning_of one.old) step calls.now answers.new) }
-    ensures the_other_decides_the_least_total { OnOk result (
-        EachDecideHasTheLeastTotal (meaning_of other.old) step calls.now others.new) }
     ensures finders_of_one_set_are_answered_alike { OnOk result (
         OneSet (meaning_of one.old) (meaning_of other.old) → AnsweredAlike answers.new others.new) }
     ensures one_point_where_one_has_the_total { OnOk result (OneSet (meaning_of one.old) (meaning_of other.old) →
@@ -49,6 +42,7 @@ pub fn crosscheck<F: PointFinder, G: PointFinder>(
     if answers.len() != calls.len() || others.len() != calls.len() {
         return Err(Refusal::Length);
     }
+    // both are asked before either is opened, so that a refusal by the other leaves the one
     one.width_to_open(step)?;
     other.width_to_open(step)?;
     one.run(step, calls, answers)?;

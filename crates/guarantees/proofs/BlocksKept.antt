@@ -5,8 +5,8 @@ use Rattle.finders.specs.PointFinders.{PointFit, Lawful}
 use Rattle.blocks.specs.Senses.{none_standing}
 use Rattle.blocks.specs.Calls.{open_checked}
 use Rattle.blocks.proofs.AlikeRuns.{run_of, runs_alike, runs_at_one_point}
-use Rattle.blocks.proofs.CallLists.{after_clear, first_of_fitting_width}
-use Rattle.blocks.proofs.RunLaws.{after_more, few_standing, each_sense}
+use Rattle.blocks.proofs.CallLists.{after_clear, last_clear, first_of_fitting_width}
+use Rattle.blocks.proofs.RunLaws.{after_more, few_standing, each_sense, each_clear, each_misfit}
 use Rattle.guarantees.specs.Blocks.{opening_told, BlockPromise, TwoBlocksPromise}
 
 opens_as_told : (M : Meaning PointFit) (q : ℕ) → open_checked M q ≡ opening_told M q
@@ -22,7 +22,10 @@ block_kept M l = record {
   a_clear_ends_what_was_before = after_clear M;
   the_first_of_fitting_width_stand = first_of_fitting_width M;
   no_more_stand_than_it_holds = few_standing M;
+  a_last_clear_or_none = last_clear;
   each_sense_is_granted_unless_full = λ q cs. each_sense M q cs _ refl;
+  each_clear_tells_how_many_stood = λ q cs. each_clear M q cs _ refl;
+  each_misfit_is_refused = λ q cs. each_misfit M q cs _ refl;
   each_decide_has_the_least_total = λ q cs opens small. (run_of M q cs l opens small).decides;
 }
 

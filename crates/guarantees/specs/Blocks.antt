@@ -1,5 +1,5 @@
 -- What is promised of blocks over any meaning, fit or not, whatever calls are made of them.
-use Rattle.std.specs.Prelude.{◌≡◌, ℕ, ◌*◌, ◌≤◌, ◌&&◌, nat_le, List, [], ◌∷◌, ◌++◌, reverse, take, Ok, Result}
+use Rattle.std.specs.Prelude.{◌≡◌, ℕ, ◌*◌, ◌≤◌, ◌&&◌, ◌⊎◌, nat_le, List, [], ◌∷◌, ◌++◌, reverse, take, Ok, Result}
 use Rattle.std.specs.List.{AllByRecursion}
 use Rattle.finders.specs.declared.refusals.Refusal.{Refusal}
 use Rattle.finders.specs.declared.refusals.Refusal.TheVariants.{Step, Depth}
@@ -9,8 +9,9 @@ use Rattle.blocks.specs.declared.calls.Call.{Call}
 use Rattle.blocks.specs.declared.calls.Call.TheVariants as call
 use Rattle.blocks.specs.Senses.{largest_reading, none_standing, count_of}
 use Rattle.blocks.specs.Calls.{depth, open_checked, after_call, standing, answers_to}
-use Rattle.blocks.specs.CallLists.{HasNoClear, senses_of_width, HasSmallReadings}
-use Rattle.blocks.specs.Runs.{EachSenseIsGrantedUnlessFull, EachDecideHasTheLeastTotal, AnsweredAlike}
+use Rattle.blocks.specs.CallLists.{HasNoClear, EndsAfterAClear, senses_of_width, HasSmallReadings}
+use Rattle.blocks.specs.Runs.{EachSenseIsGrantedUnlessFull, EachClearTellsHowManyStood, EachDecideHasTheLeastTotal}
+use Rattle.blocks.specs.Runs.{EachMisfitIsRefused, AnsweredAlike}
 use Rattle.blocks.specs.Runs.{OnePointWhereOneHasTheTotal}
 
 -- What an opening at the step q is refused for, first that applies: an unfit finder; a step below 1; a step or readings
@@ -33,11 +34,15 @@ pub record BlockPromise (M : Meaning PointFit) : Type 0 where
       → standing M q (cs ++ c ∷ []) ≡ after_call M q (standing M q cs) c
   pub a_clear_ends_what_was_before : (q : ℕ) (cs ds : List Call)
       → standing M q (cs ++ call.Clear ∷ ds) ≡ standing M q ds
+  pub a_last_clear_or_none : (cs : List Call) → HasNoClear cs ⊎ EndsAfterAClear cs
   pub the_first_of_fitting_width_stand : (q : ℕ) (cs : List Call) → HasNoClear cs
       → (standing M q cs).senses ≡ reverse (take (depth M q) (senses_of_width (width_of M) cs))
   pub no_more_stand_than_it_holds : (q : ℕ) (cs : List Call) → count_of (standing M q cs) ≤ depth M q
   pub each_sense_is_granted_unless_full : (q : ℕ) (cs : List Call)
       → EachSenseIsGrantedUnlessFull M q cs (answers_to M q cs)
+  pub each_clear_tells_how_many_stood : (q : ℕ) (cs : List Call)
+      → EachClearTellsHowManyStood M q cs (answers_to M q cs)
+  pub each_misfit_is_refused : (q : ℕ) (cs : List Call) → EachMisfitIsRefused M cs (answers_to M q cs)
   pub each_decide_has_the_least_total : (q : ℕ) (cs : List Call)
       → open_checked M q ≡ Ok tt → AllByRecursion HasSmallReadings cs
       → EachDecideHasTheLeastTotal M q cs (answers_to M q cs)

@@ -1,7 +1,7 @@
-//! The promise whole, in one place and with no code: of every layer and of every block, over any finders below.
-//! `specs/WordLayers.antt` and `specs/PointLayers.antt` say of each layer when it is unfit and by which refusal, its
-//! shape, its set, what a find answers and writes, ties included, and that its pick is best; `specs/Blocks.antt` says
-//! what a block answers, whatever calls came before.
+//! The promise whole, in one place and with no code, over any finders below. `specs/WordLayers.antt` and
+//! `specs/PointLayers.antt` say of each layer when it is unfit and by which refusal, its shape, its set, what a find
+//! answers and writes, ties included, and that its pick is best; `specs/Blocks.antt` says what stands in an open block
+//! after any calls, and what each of them is answered.
 #![tactic(auto)]
 
 ghost use Rattle.std.specs.Prelude.{ℕ, List, ℤ};

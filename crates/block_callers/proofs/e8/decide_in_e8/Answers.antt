@@ -10,5 +10,7 @@ returns c =
     let same = c.e8_by_glue.ensures.means_e8_by_glue in
     record {
       first_refusal = told.first_refusal ∙ answered_as_the_same _ e8 c.args.step (c.args.first.now ∷ c.args.second.now ∷ c.args.place.now ∷ []) both same;
-      least_total_in_e8 = outcome_of_the_same _ e8 c.args.step both c.args.place.now c.decide_two_senses.new.place c.decide_two_senses.result same told.least_total;
+      least_total_in_e8 =
+          let after = c.decide_two_senses.new.place in
+          outcome_of_the_same _ e8 c.args.step both c.args.place.now after c.decide_two_senses.result same told.least_total;
     }

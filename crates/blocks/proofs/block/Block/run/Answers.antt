@@ -1,7 +1,7 @@
 use Rattle.std.proofs.Common.{◌≡◌, Ok, rules}
 use Rattle.blocks.specs.Block.{meaning_of}
 use Rattle.blocks.specs.Calls.{open_checked, answers_to}
-use Rattle.blocks.proofs.RunLaws.{each_sense, each_decide}
+use Rattle.blocks.proofs.RunLaws.{each_sense, each_clear, each_misfit, each_decide}
 use Rattle.blocks.proofs.RunSteps.{one_made, all_answered, all_are_senses}
 use Rattle.blocks.proofs.block.Block.run.Goals as goal
 
@@ -19,6 +19,14 @@ answers g c = all_answered c.loop-i.invariant c.loop-i-test.false
 pub returns-clause-each_sense_is_granted_unless_full : goal.returns-clause-each_sense_is_granted_unless_full
 returns-clause-each_sense_is_granted_unless_full g c =
     each_sense _ c.args.step c.args.calls.now c.loop-i.answers (answers g c)
+
+pub returns-clause-each_clear_tells_how_many_stood : goal.returns-clause-each_clear_tells_how_many_stood
+returns-clause-each_clear_tells_how_many_stood g c =
+    each_clear (meaning_of c.args.self.now) c.args.step c.args.calls.now c.loop-i.answers (answers g c)
+
+pub returns-clause-each_misfit_is_refused : goal.returns-clause-each_misfit_is_refused
+returns-clause-each_misfit_is_refused g c =
+    each_misfit (meaning_of c.args.self.now) c.args.step c.args.calls.now c.loop-i.answers (answers g c)
 
 pub returns-clause-each_decide_has_the_least_total : goal.returns-clause-each_decide_has_the_least_total
 returns-clause-each_decide_has_the_least_total g c =
