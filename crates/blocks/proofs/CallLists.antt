@@ -1,5 +1,5 @@
 -- Lists of calls: what stands after them, in words; and lists that are the same calls.
-use Rattle.std.proofs.Common.{◌≡◌, ℕ, zero, suc, ◌-◌, ◌<◌, ◌≤◌, List, [], ◌∷◌, ◌++◌, length, take, reverse, ℤ, sym, refl}
+use Rattle.std.proofs.Common.{◌≡◌, ℕ, zero, suc, cond, ◌==◌, ◌-◌, ◌<◌, ◌≤◌, List, [], ◌∷◌, ◌++◌, length, take, reverse, ℤ, sym, refl}
 use Rattle.std.proofs.Common.{ap, ◌∙◌, arith, rules, zero-le, append_assoc, ◌⊎◌, inl, inr}
 use Rattle.std.specs.List.{AllByRecursion}
 use Rattle.std.proofs.lemmas.List.{reverse-append, append-nil, take_all}
@@ -7,7 +7,7 @@ use Rattle.finders.specs.Meanings.{Meaning}
 use Rattle.finders.specs.PointFinders.{PointFit, width_of}
 use Rattle.blocks.specs.declared.calls.Call.{Call}
 use Rattle.blocks.specs.declared.calls.Call.TheVariants as call
-use Rattle.blocks.specs.Senses.{Standing, none_standing, one_more, count_of}
+use Rattle.blocks.specs.Senses.{Standing, none_standing, count_of}
 use Rattle.blocks.specs.Tally.{AreSenses}
 use Rattle.blocks.specs.Calls.{depth, after_sense, after_call, after_calls, standing, answer_to, answers_from}
 use Rattle.blocks.specs.CallLists.{SameCall, SameCalls, HasNoClear, EndsAfterAClear, senses_of_width, HasSmallReadings}
@@ -43,7 +43,7 @@ module _ (M : Meaning PointFit) (q : ℕ) where
   after_clear cs ds = after_append none_standing cs (call.Clear ∷ ds)
 
   -- the senses of fitting width for which there is room, on top of those that stand
-  abbrev topped : List (List ℤ) → List (List ℤ) → List (List ℤ)
+  abbrev pub topped : List (List ℤ) → List (List ℤ) → List (List ℤ)
   topped ss fit = reverse (take (depth M q - length ss) fit) ++ ss
 
   topped_more : (ss fit : List (List ℤ)) (rs : List ℤ) → length ss < depth M q →
@@ -56,17 +56,27 @@ module _ (M : Meaning PointFit) (q : ℕ) where
   topped_full : (ss fit more : List (List ℤ)) → depth M q ≤ length ss → topped ss fit ≡ topped ss more
   topped_full ss fit more full = search rules
 
+  -- a sense is one of them, where it fits
+  pub topped_by_sense : (S : Standing) (rs : List ℤ) (fit : List (List ℤ)) → count_of S ≤ depth M q →
+      topped (after_sense M q S rs).senses fit ≡
+      topped S.senses (cond (length rs == width_of M) (rs ∷ fit) fit)
+  topped_by_sense S rs fit few =
+      search (rules, topped_full S.senses fit (rs ∷ fit), topped_more S.senses fit rs)
+
+  pub few_after_sense : (S : Standing) (rs : List ℤ) → count_of S ≤ depth M q → count_of (after_sense M q S rs) ≤ depth M q
+  few_after_sense S rs few = search rules
+
+  pub none_on_top : (ss : List (List ℤ)) → topped ss [] ≡ ss
+  none_on_top ss = rw (take_all (depth M q - length ss) [] zero-le) refl
+
   first_senses : (S : Standing) (cs : List Call) → count_of S ≤ depth M q → HasNoClear cs →
       (after_calls M q S cs).senses ≡ topped S.senses (senses_of_width (width_of M) cs)
-  first_senses S [] few h = rw (take_all (depth M q - count_of S) [] zero-le) refl
+  first_senses S [] few h = sym (none_on_top S.senses)
   first_senses S (call.Clear ∷ cs) few h = absurd h
   first_senses S (call.Decide k ∷ cs) few h = first_senses S cs few h
   first_senses S (call.Sense rs ∷ cs) few h =
-      let ss = S.senses in
-      let fit = senses_of_width (width_of M) cs in
-      let one = one_more rs.now S in
-      let more = λ (room : count_of one ≤ depth M q). first_senses one cs room h ∙ topped_more ss fit rs.now room in
-      search (rules, first_senses S cs few h, topped_full ss fit (rs.now ∷ fit), more)
+      first_senses (after_sense M q S rs.now) cs (few_after_sense S rs.now few) h
+      ∙ topped_by_sense S rs.now (senses_of_width (width_of M) cs) few
 
   pub first_of_fitting_width : (cs : List Call) → HasNoClear cs →
       (standing M q cs).senses ≡ reverse (take (depth M q) (senses_of_width (width_of M) cs))

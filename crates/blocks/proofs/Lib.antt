@@ -11,3 +11,4 @@ pub mod AlikeRuns
 pub mod CallLists
 pub mod SumLaws
 pub mod OneSet
+pub mod SameMeanings

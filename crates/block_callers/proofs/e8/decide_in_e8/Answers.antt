@@ -1,6 +1,7 @@
 use Rattle.std.proofs.Common.{◌∷◌, [], ◌∙◌}
 use Rattle.lattice_layers.specs.E8.{e8_by_glue as e8}
-use Rattle.block_callers.proofs.SameMeanings.{outcome_of_the_same, answered_as_the_same}
+use Rattle.blocks.proofs.SameMeanings.{outcome_of_the_same}
+use Rattle.block_callers.proofs.SameMeanings.{answered_as_the_same}
 use Rattle.block_callers.proofs.e8.decide_in_e8.Goals as goal
 
 pub returns : goal.returns
