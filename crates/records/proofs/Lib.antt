@@ -1,0 +1,5 @@
+pub mod ReadingBytes
+pub mod Fronts
+pub mod Streams
+pub mod Standing
+pub mod Asking
