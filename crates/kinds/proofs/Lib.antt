@@ -1,0 +1,2 @@
+pub mod Widths
+pub mod Lawful
