@@ -1,0 +1,9 @@
+//! Tests of transcripts of whole streams, and of how an input is read, run on examples.
+#![tactic(auto)]
+
+#[cfg(test)]
+mod inputs;
+#[cfg(test)]
+mod records;
+#[cfg(test)]
+mod streams;
