@@ -4,6 +4,6 @@
 #[cfg(test)]
 mod inputs;
 #[cfg(test)]
-mod records;
-#[cfg(test)]
 mod streams;
+#[cfg(test)]
+mod written;

@@ -1,5 +1,5 @@
-use super::records::Record::{Clear, Decide, Open, Sense};
-use super::records::{stream, told};
+use super::written::Record::{Clear, Decide, Open, Sense};
+use super::written::{stream, told};
 use std::test::Fail;
 use transcripts::input::MOST_BYTES;
 use transcripts::transcript::transcript;
