@@ -17,9 +17,10 @@ use Rattle.kinds.specs.Kinds.{if_so, set_of}
 abbrev HasCells : ℕ → Meaning PointFit → Type 0
 HasCells n M = fitness_of M ≡ Ok tt → width_of M ≡ n
 
-by_test : (b : Bool) (M N : Meaning PointFit) (n : ℕ) → HasCells n M → HasCells n N → HasCells n (if_so b M N)
-by_test true M N n h k = h
-by_test false M N n h k = k
+-- what holds either way holds by any test
+pub by_test : (P : Meaning PointFit → Type 0) (b : Bool) (M N : Meaning PointFit) → P M → P N → P (if_so b M N)
+by_test P true M N h k = h
+by_test P false M N h k = k
 
 unless : (b : Bool) (e : Refusal) (M : Meaning PointFit) (n : ℕ) → (b ≡ true → width_of M ≡ n) → HasCells n (unfit_unless b e M)
 unless true e M n h is = h refl
@@ -32,7 +33,7 @@ pub as_many_cells : (kind n : ℕ) → HasCells n (set_of kind n)
 as_many_cells kind n =
     let eight : (M : Meaning PointFit) → width_of M ≡ 8 → HasCells n (unfit_unless (n == 8) Length M) =
     λ M wide. unless (n == 8) Length M n (λ is. rw (eqb-true n 8 is) wide) in
-    by_test (kind == 1) (lattice_z n) _ n (all_cells n (λ x. length x ≡ n) (λ rs q. rounded q rs))
-    (by_test (kind == 2) (lattice_d n) _ n (all_cells n (λ x. (length x ≡ n) × (parity x ≡ 0)) d_pick)
-    (by_test (kind == 3) _ _ n (eight e8_by_glue refl)
-    (by_test (kind == 4) _ (unfit Kind) n (eight e8_by_words refl) (λ is. absurd (not_err (sym is))))))
+    by_test (HasCells n) (kind == 1) (lattice_z n) _ (all_cells n (λ x. length x ≡ n) (λ rs q. rounded q rs))
+    (by_test (HasCells n) (kind == 2) (lattice_d n) _ (all_cells n (λ x. (length x ≡ n) × (parity x ≡ 0)) d_pick)
+    (by_test (HasCells n) (kind == 3) _ _ (eight e8_by_glue refl)
+    (by_test (HasCells n) (kind == 4) _ (unfit Kind) (eight e8_by_words refl) (λ is. absurd (not_err (sym is))))))

@@ -2,7 +2,7 @@ ghost use Rattle.std.specs.Prelude.{◌≡◌, ◌++◌, length, min, take, drop
 ghost use Rattle.records.specs.Records.{readings_in};
 
 /// The most readings that a sense can have: it tells their number in one byte.
-pub const MOST_READINGS: usize = 255;
+pub const MOST_READINGS: usize = u8::MAX as usize;
 
 /// Writes the readings of a sense's bytes to the front of the place, two bytes for each reading, and answers how many
 /// there are: as many as the bytes have and the place has room for.

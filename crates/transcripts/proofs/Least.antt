@@ -72,11 +72,10 @@ pub least_in : (g : OpenBlock) → IsOpen g → 1 ≤ count_of g.stands →
 least_in g h some = least (set g) g.step g.stands.senses (set_lawful g.kind g.cells)
     (record { opens = h.opens; senses = h.senses; some = some; few = h.few })
 
--- no other reply is a decided point
-not_decided : (c : Result (Unit {0}) Refusal) (r : Reply) (x : List ℤ) (t : ℕ) → (r ≡ Decided x t → ⊥) →
-    answered c r ≡ Ok (Decided x t) → ⊥
-not_decided (Ok _) r x t other is = other cc
-not_decided (Err e) r x t other is = cc
+-- what is answered is the reply that was granted, and no other
+pub not_answered : (c : Result (Unit {0}) Refusal) (r s : Reply) → (r ≡ s → ⊥) → answered c r ≡ Ok s → ⊥
+not_answered (Ok _) r s other is = other cc
+not_answered (Err e) r s other is = cc
 
 decided_in : (g : OpenBlock) (x : List ℤ) (t : ℕ) → IsOpen g → answer_in g Decide ≡ Ok (Decided x t) →
     IsLeastTotal (set g) g.step g.stands.senses x t
@@ -98,13 +97,13 @@ decided_in g x t h =
 
 point_in : (G : Option OpenBlock) (e : Entry) (x : List ℤ) (t : ℕ) → MayBeOpen G → answer_to G e ≡ Ok (Decided x t) →
     HasTheLeastTotal G x t
-point_in None (Open kind n q) x t h is = not_decided (opening_checked kind n q) (Opened kind n q) x t (λ o. cc) is
+point_in None (Open kind n q) x t h is = not_answered (opening_checked kind n q) (Opened kind n q) (Decided x t) (λ o. cc) is
 point_in None (Sense rs) x t h is = cc
 point_in None Clear x t h is = cc
 point_in None Decide x t h is = cc
-point_in (Some g) (Open kind n q) x t h is = absurd (not_decided (opening_checked kind n q) (Opened kind n q) x t (λ o. cc) is)
+point_in (Some g) (Open kind n q) x t h is = absurd (not_answered (opening_checked kind n q) (Opened kind n q) (Decided x t) (λ o. cc) is)
 point_in (Some g) (Sense rs) x t h is =
-    absurd (not_decided (sense_checked (set g) g.step g.stands rs) (Sensed (suc (count_of g.stands))) x t (λ o. cc) is)
+    absurd (not_answered (sense_checked (set g) g.step g.stands rs) (Sensed (suc (count_of g.stands))) (Decided x t) (λ o. cc) is)
 point_in (Some g) Clear x t h is = cc
 point_in (Some g) Decide x t h is = decided_in g x t h is
 

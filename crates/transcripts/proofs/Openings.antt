@@ -12,10 +12,11 @@ use Rattle.blocks.specs.Calls.{depth, after_sense, sense_checked}
 use Rattle.blocks.proofs.CallLists.{topped, topped_by_sense, few_after_sense, none_on_top}
 use Rattle.kinds.proofs.Widths.{as_many_cells}
 use Rattle.records.specs.Records.{Entry, Open, Sense, Clear, Decide}
-use Rattle.transcripts.specs.Replies.{Reply, Opened, Sensed, Cleared, Decided}
+use Rattle.transcripts.specs.Replies.{Opened, Sensed, Cleared, Decided}
 use Rattle.transcripts.specs.Sessions.{OpenBlock, set, opening_checked, newly_opened, with_standing, after, answer_to}
 use Rattle.transcripts.specs.Transcripts.{open_from, open_after, answers_from, answers_to}
 use Rattle.transcripts.specs.Openings.{AreSensesAndDecides, senses_of_cells, EachOpenIsRefused, SoManyStand}
+use Rattle.transcripts.proofs.Least.{not_answered}
 
 open_append : (G : Option OpenBlock) (es fs : List Entry) → open_from G (es ++ fs) ≡ open_from (open_from G es) fs
 open_append G [] fs = refl
@@ -87,38 +88,29 @@ sensed_by : (c : Result (Unit {0}) Refusal) (S T : Standing) (n m : ℕ) → cou
 sensed_by (Ok _) S T n m is h = let same : n ≡ m = cc in is ∙ same
 sensed_by (Err e) S T n m is h = cc
 
--- no other reply tells it
-no_sense : (c : Result (Unit {0}) Refusal) (r : Reply) (m : ℕ) → (r ≡ Sensed m → ⊥) → answered c r ≡ Ok (Sensed m) → ⊥
-no_sense (Ok _) r m other is = other cc
-no_sense (Err e) r m other is = cc
-
-no_clear : (c : Result (Unit {0}) Refusal) (r : Reply) (m : ℕ) → (r ≡ Cleared m → ⊥) → answered c r ≡ Ok (Cleared m) → ⊥
-no_clear (Ok _) r m other is = other cc
-no_clear (Err e) r m other is = cc
-
 sensed_in : (G : Option OpenBlock) (e : Entry) (m : ℕ) → answer_to G e ≡ Ok (Sensed m) → SoManyStand m (after G e)
-sensed_in None (Open k n q) m is = absurd (no_sense (opening_checked k n q) (Opened k n q) m (λ o. cc) is)
+sensed_in None (Open k n q) m is = absurd (not_answered (opening_checked k n q) (Opened k n q) (Sensed m) (λ o. cc) is)
 sensed_in None (Sense rs) m is = cc
 sensed_in None Clear m is = cc
 sensed_in None Decide m is = cc
-sensed_in (Some g) (Open k n q) m is = absurd (no_sense (opening_checked k n q) (Opened k n q) m (λ o. cc) is)
+sensed_in (Some g) (Open k n q) m is = absurd (not_answered (opening_checked k n q) (Opened k n q) (Sensed m) (λ o. cc) is)
 sensed_in (Some g) (Sense rs) m is =
     sensed_by (sense_checked (set g) g.step g.stands rs) g.stands (one_more rs g.stands) (suc (count_of g.stands)) m refl is
 sensed_in (Some g) Clear m is = cc
 sensed_in (Some g) Decide m is =
-    absurd (no_sense (checked (nat_le 1 (count_of g.stands)) Empty (Ok tt)) (Decided _ _) m (λ o. cc) is)
+    absurd (not_answered (checked (nat_le 1 (count_of g.stands)) Empty (Ok tt)) (Decided _ _) (Sensed m) (λ o. cc) is)
 
 cleared_in : (G : Option OpenBlock) (e : Entry) (m : ℕ) → answer_to G e ≡ Ok (Cleared m) → SoManyStand m G
-cleared_in None (Open k n q) m is = absurd (no_clear (opening_checked k n q) (Opened k n q) m (λ o. cc) is)
+cleared_in None (Open k n q) m is = absurd (not_answered (opening_checked k n q) (Opened k n q) (Cleared m) (λ o. cc) is)
 cleared_in None (Sense rs) m is = cc
 cleared_in None Clear m is = cc
 cleared_in None Decide m is = cc
-cleared_in (Some g) (Open k n q) m is = absurd (no_clear (opening_checked k n q) (Opened k n q) m (λ o. cc) is)
+cleared_in (Some g) (Open k n q) m is = absurd (not_answered (opening_checked k n q) (Opened k n q) (Cleared m) (λ o. cc) is)
 cleared_in (Some g) (Sense rs) m is =
-    absurd (no_clear (sense_checked (set g) g.step g.stands rs) (Sensed (suc (count_of g.stands))) m (λ o. cc) is)
+    absurd (not_answered (sense_checked (set g) g.step g.stands rs) (Sensed (suc (count_of g.stands))) (Cleared m) (λ o. cc) is)
 cleared_in (Some g) Clear m is = cc
 cleared_in (Some g) Decide m is =
-    absurd (no_clear (checked (nat_le 1 (count_of g.stands)) Empty (Ok tt)) (Decided _ _) m (λ o. cc) is)
+    absurd (not_answered (checked (nat_le 1 (count_of g.stands)) Empty (Ok tt)) (Decided _ _) (Cleared m) (λ o. cc) is)
 
 sensed_from : (G : Option OpenBlock) (es : List Entry) (i m : ℕ) → slice_get (answers_from G es) i ≡ Some (Ok (Sensed m)) →
     SoManyStand m (open_from G (take (suc i) es))
