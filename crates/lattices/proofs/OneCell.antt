@@ -10,18 +10,23 @@ use Rattle.lattices.specs.LatticeD.{left_over}
 use Rattle.lattices.specs.RoundedCells.{length_rounded, near_rounded}
 
 -- what rounding gives is passed through 32 bits, at a step that is no less than 1
+pub round_told : (q : ℕ) (z x s : ℤ) → 1 ≤ q → SFits w32 z → x ≡ nearest (max q 1) (to_z w32 (of_z w32 z)) → s ≡ residue (max q 1) (to_z w32 (of_z w32 z)) x → (x ≡ nearest q z) × (s ≡ residue q z (nearest q z))
+round_told q z x s h f e g =
+    let m : max q 1 ≡ q = omega arith in
+    let t : to_z w32 (of_z w32 z) ≡ z = to_z-of_z w32 z f in
+    let n : x ≡ nearest q z = rw (m, t) at e in
+    (n, (rw (m, t) at g) ∙ ap (residue q z) n)
+
+-- the same, with the size of the residue
 pub record Told (q : ℕ) (z x s : ℤ) (n : ℕ) : Type 0 where
   pub number : x ≡ nearest q z
   pub residue : s ≡ residue q z (nearest q z)
   pub size : n ≡ left_over q z
 
-pub round_told : (q : ℕ) (z x s : ℤ) (n : ℕ) → 1 ≤ q → SFits w32 z → SFits w32 s → x ≡ nearest (max q 1) (to_z w32 (of_z w32 z)) → s ≡ residue (max q 1) (to_z w32 (of_z w32 z)) x → n ≡ nat_abs (to_z w32 (of_z w32 s)) → Told q z x s n
-round_told q z x s n h f g e d a =
-    let m : max q 1 ≡ q = omega arith in
-    let t : to_z w32 (of_z w32 z) ≡ z = to_z-of_z w32 z f in
-    let number : x ≡ nearest q z = rw (m, t) at e in
-    let left : s ≡ residue q z (nearest q z) = (rw (m, t) at d) ∙ ap (residue q z) number in
-    record { number = number; residue = left; size = a ∙ ap nat_abs (to_z-of_z w32 s g ∙ left) }
+pub cell_told : (q : ℕ) (z x s : ℤ) (n : ℕ) → 1 ≤ q → SFits w32 z → SFits w32 s → x ≡ nearest (max q 1) (to_z w32 (of_z w32 z)) → s ≡ residue (max q 1) (to_z w32 (of_z w32 z)) x → n ≡ nat_abs (to_z w32 (of_z w32 s)) → Told q z x s n
+cell_told q z x s n h f g e d a =
+    let r = round_told q z x s h f e d in
+    record { number = r.0; residue = r.1; size = a ∙ ap nat_abs (to_z-of_z w32 s g ∙ r.1) }
 
 -- ---- one turn of the loop, at the reading with index i
 module _ (q : ℕ) (rs : List ℤ) (i : ℕ) (here : i < length rs) where

@@ -44,12 +44,11 @@ impl Group<'_> {
         ensures point { place.new ≡ rounded self.now.step self.now.readings.now }
         ensures distance { result ≡ distance self.now.step self.now.readings.now (rounded self.now.step self.now.readings.now) }
     {
-        // the readings stand in the place, and each gives way to its number: of a loop over `zip` with `iter_mut` the checker
-        // would know nothing
-        place.copy_from_slice(self.readings);
         let mut distance = 0;
-        for coordinate in place.iter_mut() {
-            let cell = round(*coordinate, self.step);
+        // by index: of a loop over `zip` with `iter_mut` the checker would know nothing, and to copy the readings into the place
+        // first takes longer than one or two cells do
+        for (i, coordinate) in place.iter_mut().enumerate() {
+            let cell = round(self.readings[i], self.step);
             *coordinate = cell.number;
             distance += square(cell.residue.unsigned_abs());
         }

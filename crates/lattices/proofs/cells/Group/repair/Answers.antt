@@ -6,7 +6,7 @@ use Rattle.finders.specs.Rounding.{other_way, turned}
 use Rattle.finders.proofs.Distances.{distance_small}
 use Rattle.lattices.specs.LatticeD.{turned_at, repaired}
 use Rattle.lattices.specs.Repair.{turn_costs, turned_small, near_turned}
-use Rattle.lattices.proofs.OneCell.{Told, round_told}
+use Rattle.lattices.proofs.OneCell.{Told, cell_told}
 use Rattle.lattices.proofs.cells.Group.repair.Goals as goal
 use Rattle.lattices.proofs.cells.Group.repair.Goals.{After-other_way}
 
@@ -14,7 +14,7 @@ cell : (c : After-other_way) → Told c.args.self.now.step (get_or c.args.self.n
 cell c =
     let f : SFits w32 (get_or c.args.self.now.readings.now c.in-Some.i (pos 0)) = search rules in
     let g : SFits w32 c.round-cell.result.residue = search rules in
-    round_told c.args.self.now.step _ _ _ c.unsigned_abs-size.result c.args.self.now.some_step f g c.round-cell.ensures.is_the_nearest_number c.round-cell.ensures.leaves_the_residue c.unsigned_abs-size.ensures.value
+    cell_told c.args.self.now.step _ _ _ c.unsigned_abs-size.result c.args.self.now.some_step f g c.round-cell.ensures.is_the_nearest_number c.round-cell.ensures.leaves_the_residue c.unsigned_abs-size.ensures.value
 
 turn : (c : After-other_way) → c.other_way.result ≡ turned c.args.self.now.step (get_or c.args.self.now.readings.now c.in-Some.i (pos 0))
 turn c = c.other_way.ensures.is_the_other_way ∙ ap₂ other_way (cell c).residue (cell c).number
