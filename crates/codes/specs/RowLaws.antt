@@ -1,41 +1,44 @@
 -- The rows of the Hadamard transform: a row of twice the cells is a row and the same again, or a row and the same reversed.
-use Rattle.std.specs.Prelude.{◌≡◌, ℕ, suc, ◌+◌, ◌-◌, ◌*◌, ◌^◌, ◌<◌, List, [], ◌∷◌, ◌++◌, map, length, bit_and, count_ones, slice_index, slice_index_or, refl}
-use Rattle.std.proofs.Common.{sym, ap, ap₂, ◌∙◌, inl, inr, mod-lt, arith}
+use Rattle.std.specs.Prelude.{◌≡◌, ℕ, zero, suc, ◌+◌, ◌-◌, ◌*◌, ◌^◌, ◌<◌, List, [], ◌∷◌, ◌++◌, map, length, bit_and, count_ones, slice_index, refl}
+use Rattle.std.proofs.Common.{sym, ap, ap₂, ◌∙◌, mod-lt, arith}
 use Rattle.std.proofs.Math.Nat.{pow-succ'}
 use Rattle.std.proofs.lemmas.Nat.{and_block, ones_cat}
 use Rattle.std.specs.Int.Bits.{and_lt}
 use Rattle.std.specs.Int.Count.{ones-ones}
 use Rattle.std.specs.List.{AllByRecursion, range_with_len}
-use Rattle.std.proofs.lemmas.List.{length-map, length-append, get_or-map, get_or_append_left, get_or-append_right}
-use Rattle.std.proofs.lemmas.List.FromFn.{length-map-range_with_len, get_or-map-range_with_len, fill_by_all}
-use Rattle.std.proofs.lemmas.Bool.{cases_lt}
+use Rattle.std.proofs.lemmas.List.{length-map, map-append, get_or-map}
+use Rattle.std.proofs.lemmas.List.FromFn.{length-map-range_with_len, get_or-map-range_with_len}
 use Rattle.finders.specs.Words.{digit}
 use Rattle.codes.specs.Digits.{word, reversed}
 use Rattle.codes.specs.ReedMuller.{parity, row, row_word, complement}
 use Rattle.codes.specs.DigitLaws.{Digit, reversed_digit, map_digits, word_digit}
 
--- ---- functions of the numbers in a row
+-- ---- numbers in a row
 
--- the first half, and the second as a function of the first
-pub map_range_halves : {X : Type 0} (d : X) (f g h : ℕ → X) (p : ℕ) → ((i : ℕ) → i < p → f i ≡ g i) → ((i : ℕ) → i < p → f (p + i) ≡ h i) → map f (range_with_len 0 (p + p)) ≡ map g (range_with_len 0 p) ++ map h (range_with_len 0 p)
-map_range_halves {X} d f g h p a b = sym (fill_by_all f (xs ++ ys) (p + p) d (length-append xs ys ∙ ap₂ ◌+◌ wide (length-map-range_with_len h 0 p)) at)
-  where
-    xs : List X
-    xs = map g (range_with_len 0 p)
+pub range_split : (k p q : ℕ) → range_with_len k (p + q) ≡ range_with_len k p ++ range_with_len (k + p) q
+range_split k zero q = let a : 0 + q ≡ q = omega arith in let b : k + 0 ≡ k = omega arith in rw (a, b)
+range_split k (suc p) q =
+    let a : suc p + q ≡ suc (p + q) = omega arith in
+    let b : k + 1 + p ≡ k + suc p = omega arith in
+    rw (a, range_split (k + 1) p q, b)
 
-    ys : List X
-    ys = map h (range_with_len 0 p)
+module _ {X : Type 0} where
+  -- two functions that agree on the numbers
+  pub map_range_alike : (f g : ℕ → X) (k n : ℕ) → ((i : ℕ) → i < k + n → f i ≡ g i) → map f (range_with_len k n) ≡ map g (range_with_len k n)
+  map_range_alike f g k zero h = refl
+  map_range_alike f g k (suc n) h = ap₂ (λ (x : X) (xs : List X). x ∷ xs) (h k (omega arith)) (map_range_alike f g (k + 1) n (λ i l. h i (omega arith)))
 
-    wide : length xs ≡ p
-    wide = length-map-range_with_len g 0 p
+  map_range_shift : (f : ℕ → X) (p k n : ℕ) → map f (range_with_len (p + k) n) ≡ map (λ i. f (p + i)) (range_with_len k n)
+  map_range_shift f p k zero = refl
+  map_range_shift f p k (suc n) = let e : p + k + 1 ≡ p + (k + 1) = omega arith in rw (e, map_range_shift f p (k + 1) n)
 
-    at : (k : ℕ) → k < p + p → slice_index_or (xs ++ ys) k d ≡ f k
-    at k l = elim (cases_lt k p) [
-      | inl k_low ↦ get_or_append_left xs ys d k (omega (arith, wide)) ∙ get_or-map-range_with_len g 0 p k k d k_low (omega arith) ∙ sym (a k k_low)
-      | inr k_high ↦
-          let e : p + (k - p) ≡ k = omega arith in
-          get_or-append_right xs ys p k d wide k_high ∙ get_or-map-range_with_len h 0 p (k - p) (k - p) d (omega arith) (omega arith) ∙ sym (b (k - p) (omega arith)) ∙ ap f e
-    ]
+  -- the first half, and the second as a function of the first
+  pub map_range_halves : (f g h : ℕ → X) (p : ℕ) → ((i : ℕ) → i < p → f i ≡ g i) → ((i : ℕ) → i < p → f (p + i) ≡ h i) →
+      map f (range_with_len 0 (p + p)) ≡ map g (range_with_len 0 p) ++ map h (range_with_len 0 p)
+  map_range_halves f g h p a b =
+      let z : 0 + p ≡ p + 0 = omega arith in
+      ap (map f) (range_split 0 p p ∙ ap (λ (k : ℕ). range_with_len 0 p ++ range_with_len k p) z) ∙ map-append f (range_with_len 0 p) (range_with_len (p + 0) p)
+      ∙ ap₂ ◌++◌ (map_range_alike f g 0 p (λ i l. a i (omega arith))) (map_range_shift f p 0 p ∙ map_range_alike (λ i. f (p + i)) h 0 p (λ i l. b i (omega arith)))
 
 -- ---- the digits
 
@@ -99,7 +102,7 @@ pub double : (m : ℕ) → 2 ^ suc m ≡ 2 ^ m + 2 ^ m
 double m = omega (arith, pow-succ' 2 m)
 
 pub row_low : (m a : ℕ) → a < 2 ^ m → row (suc m) a ≡ row m a ++ row m a
-row_low m a h = ap (λ (n : ℕ). map (parity a) (range_with_len 0 n)) (double m) ∙ map_range_halves 0 (parity a) (parity a) (parity a) (2 ^ m) (λ i k. refl) (λ i k. low_high m a i h k)
+row_low m a h = ap (λ (n : ℕ). map (parity a) (range_with_len 0 n)) (double m) ∙ map_range_halves (parity a) (parity a) (parity a) (2 ^ m) (λ i k. refl) (λ i k. low_high m a i h k)
 
 map_map : (f g : ℕ → ℕ) (xs : List ℕ) → map (λ i. f (g i)) xs ≡ map f (map g xs)
 map_map f g [] = refl
@@ -108,7 +111,7 @@ map_map f g (x ∷ xs) = ap (λ (v : List ℕ). f (g x) ∷ v) (map_map f g xs)
 pub row_high : (m a : ℕ) → a < 2 ^ m → row (suc m) (2 ^ m + a) ≡ row m a ++ map reversed (row m a)
 row_high m a h =
     ap (λ (n : ℕ). map (parity (2 ^ m + a)) (range_with_len 0 n)) (double m)
-    ∙ map_range_halves 0 (parity (2 ^ m + a)) (parity a) (λ i. reversed (parity a i)) (2 ^ m) (λ i k. high_low m a i h k) (λ i k. high_high m a i h k)
+    ∙ map_range_halves (parity (2 ^ m + a)) (parity a) (λ i. reversed (parity a i)) (2 ^ m) (λ i k. high_low m a i h k) (λ i k. high_high m a i h k)
     ∙ ap (λ (v : List ℕ). row m a ++ v) (map_map reversed (parity a) (range_with_len 0 (2 ^ m)))
 
 -- ---- each digit of a row's word, and of its complement

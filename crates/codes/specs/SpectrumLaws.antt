@@ -1,5 +1,5 @@
 -- The correlations of all rows: twice the cells give the sums and the differences of the halves.
-use Rattle.std.specs.Prelude.{◌≡◌, ℕ, zero, suc, ◌+◌, ◌^◌, ◌<◌, ◌≤◌, true, List, [], ◌∷◌, ◌++◌, map, length, ℤ, pos, ◌+ℤ◌, ◌-ℤ◌, neg_ℤ, unsigned_abs, refl}
+use Rattle.std.specs.Prelude.{◌≡◌, ℕ, zero, suc, ◌+◌, ◌^◌, ◌<◌, ◌≤◌, true, List, [], ◌∷◌, ◌++◌, map, length, ℤ, ◌+ℤ◌, ◌-ℤ◌, neg_ℤ, unsigned_abs, refl}
 use Rattle.std.proofs.Common.{sym, ap, ap₂, ◌∙◌, arith, pow_mono}
 use Rattle.std.proofs.Math.IntN.{+ℤ_idl, +ℤ_idr}
 use Rattle.std.specs.List.{AllByRecursion, range_with_len}
@@ -51,7 +51,7 @@ pub spectrum_halves : (m : ℕ) (xs ys : List ℤ) → length xs ≡ 2 ^ m → l
     spectrum (suc m) (xs ++ ys) ≡ crossed (spectrum m xs) (spectrum m ys)
 spectrum_halves m xs ys e f =
     ap (λ (n : ℕ). map (λ a. correlation (row_word (suc m) a) (xs ++ ys)) (range_with_len 0 n)) (double m)
-    ∙ map_range_halves (pos 0) (λ a. correlation (row_word (suc m) a) (xs ++ ys)) (λ a. correlation (row_word m a) xs +ℤ correlation (row_word m a) ys) (λ a. correlation (row_word m a) xs -ℤ correlation (row_word m a) ys) (2 ^ m) low high
+    ∙ map_range_halves (λ a. correlation (row_word (suc m) a) (xs ++ ys)) (λ a. correlation (row_word m a) xs +ℤ correlation (row_word m a) ys) (λ a. correlation (row_word m a) xs -ℤ correlation (row_word m a) ys) (2 ^ m) low high
     ∙ sym (ap₂ ◌++◌ (zip_with_map (λ x y. x +ℤ y) (λ a. correlation (row_word m a) xs) (λ a. correlation (row_word m a) ys) (range_with_len 0 (2 ^ m))) (zip_with_map (λ x y. x -ℤ y) (λ a. correlation (row_word m a) xs) (λ a. correlation (row_word m a) ys) (range_with_len 0 (2 ^ m))))
   where
     wide : (a : ℕ) (zs : List ℤ) → length zs ≡ 2 ^ m → length (row m a) ≡ length zs
